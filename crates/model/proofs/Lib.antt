@@ -1,0 +1,4 @@
+pub mod Sums
+pub mod Search
+pub mod Largest
+pub mod Mirrors
