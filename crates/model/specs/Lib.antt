@@ -1,4 +1,5 @@
--- In the order of reading: sums, sheets with their placements and elastic schedules, energies, what a rule is, and the rules T, E and S.
+-- In the order of reading: the changes of a row, sums, sheets with their placements and elastic schedules, energies, what a rule is, and the rules T, E and S.
+pub mod Changes
 pub mod Total
 pub mod Sheets
 pub mod Energy

@@ -1,4 +1,6 @@
 // A row of the board: one booked test.
+ghost use mathlib.Core.Path.{_≡_};
+ghost use Rattle.model.specs.Changes.{reset, rebooked, narrowed};
 use crate::windows::Window;
 
 // A subscriber profile and a bearer identity. No two rows of a board have the same pair.
@@ -16,4 +18,28 @@ pub struct Row {
     pub demand: u16,
     pub entered: Window,
     pub present: Window,
+}
+
+impl Row {
+    // Makes the present window the entered one again.
+    pub fn reset(&mut self)
+        ensures { λ _. ⌜ now (self .exit) ≡ reset (now (self .entry)) ⌝ }
+    {
+        self.present = self.entered;
+    }
+
+    // Gives the row a new window, as entered and as present.
+    pub fn rebook(&mut self, window: Window)
+        ensures { λ _. ⌜ now (self .exit) ≡ rebooked window (now (self .entry)) ⌝ }
+    {
+        self.entered = window;
+        self.present = window;
+    }
+
+    // Gives the row a new present window.
+    pub fn narrow(&mut self, window: Window)
+        ensures { λ _. ⌜ now (self .exit) ≡ narrowed window (now (self .entry)) ⌝ }
+    {
+        self.present = window;
+    }
 }
