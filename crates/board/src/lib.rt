@@ -5,3 +5,5 @@ pub mod places;
 pub mod table;
 pub mod boards;
 pub mod calls;
+pub mod saved;
+pub mod restoring;

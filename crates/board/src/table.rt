@@ -1,8 +1,8 @@
 // The table of rows inside a board.
-ghost use Prim.Native.Nat.{_+_, _<_};
+ghost use Prim.Native.Nat.{_+_, _<_, _≤_};
 ghost use mathlib.Core.Path.{_≡_};
 ghost use mathlib.Core.List.{[], _∷_, _++_, map};
-ghost use lib.ListN.{set};
+ghost use lib.ListN.{length, set};
 ghost use Rattle.std.specs.Holes.{removed};
 ghost use Rattle.std.specs.Of.Vec.{vec-items, vec-len, vec-cap};
 ghost use Rattle.board.specs.Limits.{row-at};
@@ -66,6 +66,19 @@ impl Table {
         for i in 0..self.rows.len() {
             let row = &mut self.rows[i];
             row.reset();
+        }
+    }
+
+    // Replaces all rows, where there is room for them.
+    pub(crate) fn refill(&mut self, rows: &[Row])
+        requires { ⌜ length (now rows) ≤ vec-cap (now self .rows) ⌝ }
+        ensures rows { λ _. ⌜ vec-items (now (self .exit) .rows) ≡ now (rows .entry) ⌝ }
+        ensures count { λ _. ⌜ vec-len (now (self .exit) .rows) ≡ length (now (rows .entry)) ⌝ }
+        ensures room { λ _. ⌜ vec-cap (now (self .exit) .rows) ≡ vec-cap (now (self .entry) .rows) ⌝ }
+    {
+        self.rows.clear();
+        for i in 0..rows.len() {
+            self.rows.push_reserved(rows[i]);
         }
     }
 }
