@@ -1,6 +1,7 @@
 // The board: one channel capacity, and the tests that are booked against it.
 pub mod refusals;
 pub mod bookings;
+pub mod answers;
 pub mod places;
 pub mod table;
 pub mod boards;
