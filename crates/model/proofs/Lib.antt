@@ -1,4 +1,6 @@
 pub mod Sums
 pub mod Search
 pub mod Largest
+pub mod Same
 pub mod Mirrors
+pub mod Cuts
