@@ -1,0 +1,3 @@
+-- In the order of reading: E as a definition that computes, and the theorems.
+pub mod Meaning
+pub mod Theorems

@@ -1,0 +1,1 @@
+// E, the elastic rule: what it means, and what is proved of it and of elastic schedules.
