@@ -4,3 +4,6 @@ pub mod Placed
 pub mod Mirrored
 pub mod Deadlines
 pub mod Searches
+pub mod IsE
+pub mod Law
+pub mod Examples
