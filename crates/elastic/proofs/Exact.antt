@@ -151,3 +151,10 @@ module _ (s : Sheet) where
         | inr under ↦ omega (arith, as-load (entry s i .release) (entry s j .deadline))
       ])
       (λ i l. good .each i l .within))
+
+  -- where no interval from a release to a deadline is overfull, no interval at all has more work than room
+  pub everywhere : Sound s → Nowhere-overfull s → (t1 t2 : ℕ) → work-in s t1 t2 ≤ s .capacity * (t2 - t1)
+  everywhere good none t1 t2 =
+      let h = sound horizon (count s) (λ i. entry s i .release) (λ i. entry s i .deadline) (λ i. work (entry s i)) (s .capacity)
+      (to-filled good (elastic good none)) t1 t2 in
+      omega (arith, as-load t1 t2)

@@ -7,3 +7,4 @@ pub mod Searches
 pub mod IsE
 pub mod Law
 pub mod Examples
+pub mod Pushed
