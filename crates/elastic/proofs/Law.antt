@@ -42,6 +42,12 @@ module _ (rule : Meaning) (is : Is-E rule) where
   none-if-nowhere s sound none =
       elim (some-or-none (rule .evidence s)) [ inl (i, e) ↦ absurd (none (i .t1) (i .t2) (overfull-if-some s sound i e)) | inr e ↦ e ]
 
+  -- and then none on the mirror either
+  pub none-on-mirror : (s : Sheet) → Sound s → rule .evidence s ≡ None → rule .evidence (mirror s) ≡ None
+  none-on-mirror s sound none =
+      none-if-nowhere (mirror s) (mirror-sound s sound)
+      (not-overfull (mirror s) (mirror-sound s sound) (mirror-there s sound (elastic s sound (nowhere-if-none s sound none))))
+
   never-E : (s : Sheet) → Sound s → rule .evidence s ≡ None → (start : ℕ → ℕ) → Placement s start → (k n : ℕ) → k < count s → rule .earliest s k ≡ Some n → n ≤ start k
   never-E s sound none start p k n l e =
       let (d, sm, eq) = is .start s sound (nowhere-if-none s sound none) k l in
@@ -102,7 +108,7 @@ pub settled-windows-are-tight : Settled-windows-are-tight
 settled-windows-are-tight rule is s sound none here there k l =
     let clear = nowhere-if-none rule is s sound none in
     let good = mirror-sound s sound in
-    let clear′ = not-overfull (mirror s) good (mirror-there s sound (elastic s sound clear)) in
+    let clear′ = nowhere-if-none rule is (mirror s) good (none-on-mirror rule is s sound none) in
     let l′ : k < count (mirror s) = rw (mirror-count s) l in
     let m = mirror-at s k l in
     let r = ap (λ (x : Entry). x .release) m in

@@ -3,11 +3,11 @@ use Prim.Native.Nat.{ℕ, zero, suc, _+_, _-_, _*_, _≤_, _<_, min, max}
 use mathlib.Core.Path.{_≡_, refl, sym, ap, _∙_}
 use mathlib.Core.Logic.{_⊎_, inl, inr}
 use mathlib.Core.Bool.{cond, _&&_}
-use native.Mathlib.Nat.{mul-comm, mul-one, mul-add, mul-le-mul-left, mul-le-mul-right}
+use native.Mathlib.Nat.{mul-comm, mul-one, mul-add, mul-le-mul-left}
 use native.Mathlib.Omega.{arith}
 use native.Mathlib.Decide.{decLe, decLt}
 use lib.Dec.{leb}
-use Rattle.std.proofs.shelf.Bits.{div-below, le-div}
+use Rattle.std.specs.declared.option.Option.the-variants.{Some, None}
 use Rattle.std.proofs.shelf.Tests.{cases-lt, cases-eq}
 use Rattle.std.proofs.shelf.Ways.{tells}
 use Rattle.model.specs.declared.entries.Entry.{Entry}
@@ -17,32 +17,12 @@ use Rattle.model.specs.Energy.{Overfull, Nowhere-overfull, work-inside, work-in
 use Rattle.model.specs.Elastic.{Smallest-deadline}
 use Rattle.model.proofs.Sums.{total-ext, total-le, total-add, total-pick, total-zero, is, below}
 use Rattle.model.proofs.Search.{Least, least}
+use Rattle.model.proofs.Ceilings.{ceiling-up, ceiling-near}
 use Rattle.model.proofs.Cuts.{cut-count, cut-inside, cut-there, cut-at, cut-sound, cut-own}
 use Rattle.elastic.specs.Pushes.{filled, Fullest, Pushes, Pushed-by, Pushes-give-the-smallest-deadline}
-use Rattle.elastic.proofs.Exact.{find, elastic, everywhere}
-
--- a quotient rounded up is enough, and one less is not
-pub ceiling-up : (x c : ℕ) → 1 ≤ c → x ≤ c * ceiling x c
-ceiling-up x c l =
-    let q = ceiling x c in
-    elim (cases-lt (c * q) x) [
-      | inr h ↦ h
-      | inl h ↦ absurd (omega (arith, le-div (q + 1) (x + (c - 1)) c l (omega arith)))
-    ]
-
-pub ceiling-near : (x c : ℕ) → 1 ≤ c → 0 < x → c * (ceiling x c - 1) < x
-ceiling-near x c l some =
-    let q = ceiling x c in
-    elim (cases-lt (c * (q - 1)) x) [
-      | inl h ↦ h
-      | inr h ↦ elim (cases-lt 0 q) [
-        | inl pos ↦
-            let e : q ≡ (q - 1) + 1 = omega arith in
-            let split : c * q ≡ c * ((q - 1) + 1) = ap (λ (y : ℕ). c * y) e in
-            absurd (omega (arith, div-below (x + (c - 1)) c q l (omega arith)))
-        | inr z ↦ let e : q - 1 ≡ 0 = omega arith in absurd (omega (arith, ap (λ (y : ℕ). c * y) e))
-      ]
-    ]
+use Rattle.elastic.specs.Meaning.{meaning-E}
+use Rattle.elastic.proofs.Exact.{find, everywhere}
+use Rattle.elastic.proofs.Law.{earliest-is}
 
 -- one place more
 plus-one : (n k w : ℕ) (f : ℕ → ℕ) → k < n → total n (λ j. f j + w * is k j) ≡ total n f + w
@@ -282,6 +262,29 @@ module _ (s : Sheet) (sound : Sound s) (none : Nowhere-overfull s) (k : ℕ) (he
 pub pushes-give-the-smallest-deadline : Pushes-give-the-smallest-deadline
 pushes-give-the-smallest-deadline s sound none k here e = (pushed-smallest s sound none k here e, smallest-pushed s sound none k here e)
 
+-- ---- one release after another, for a loop over them
+module _ (s : Sheet) (r t2 : ℕ) where
+  pub fullest-first : (k : ℕ) → k < count s → entry s k .release ≤ r → Fullest s r t2 0 (filled s (entry s k .release) t2)
+  fullest-first k l le = record { most = λ i li h. absurd (omega arith); reached = (k, l, (le, refl)) }
+
+  module _ (n b : ℕ) (full : Fullest s r t2 n b) where
+    pub fullest-skip : r < entry s n .release → Fullest s r t2 (n + 1) b
+    fullest-skip l =
+        record {
+          most = λ i li h. elim (cases-eq i n) [ inl same ↦ absurd (let h′ = rw same at h in omega arith) | inr other ↦ full .most i (omega arith) h ];
+          reached = full .reached;
+        }
+
+    pub fullest-more : n < count s → entry s n .release ≤ r → Fullest s r t2 (n + 1) (max b (filled s (entry s n .release) t2))
+    fullest-more ln l =
+        let f = filled s (entry s n .release) t2 in
+        let most : (i : ℕ) → i < n + 1 → entry s i .release ≤ r → filled s (entry s i .release) t2 ≤ max b f =
+        λ i li h. elim (cases-eq i n) [ inl same ↦ rw same (omega arith) | inr other ↦ omega (arith, full .most i (omega arith) h) ] in
+        elim (cases-lt b f) [
+          | inl less ↦ let m : max b f ≡ f = omega arith in record { most = most; reached = rw m (n, ln, (l, refl)) }
+          | inr more ↦ let m : max b f ≡ b = omega arith in record { most = most; reached = rw m (full .reached) }
+        ]
+
 -- ---- one deadline after another, for a loop over them
 module _ (s : Sheet) (k : ℕ) where
   pub pushed-none : Pushed-by s k 0 (entry s k .release + entry s k .duration)
@@ -338,3 +341,8 @@ module _ (s : Sheet) (k : ℕ) where
                   near = inr (i, n, li, omega arith, record { release = li2; deadline = before; over = omega arith }, omega arith);
                 })
           ]
+
+-- what E answers where all deadlines have pushed the entry to e
+pub earliest-pushed : (s : Sheet) (k e : ℕ) → Sound s → k < count s → Nowhere-overfull s → Pushed-by s k (count s) e →
+    meaning-E .earliest s k ≡ Some (e - entry s k .duration)
+earliest-pushed s k e sound here none is = earliest-is s k e sound here none (pushed-smallest s sound none k here e is)

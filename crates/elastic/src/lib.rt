@@ -1,4 +1,5 @@
 // E, the elastic rule: what it means, and what is proved of it and of elastic schedules.
+ghost use Rattle.elastic.specs.Pushes.{Pushes-give-the-smallest-deadline};
 ghost use Rattle.elastic.specs.Theorems.{E-finds-the-smallest-deadline, E-is-exact, E-keeps-the-law, Mirrors-keep, Placements-are-elastic, Settled-windows-are-tight, Some-fit-and-some-do-not};
 
 // Every placement is an elastic schedule.
@@ -32,6 +33,13 @@ pub fn e_is_exact() -> u8
 // Some elastic schedule ends an entry by its smallest deadline, none by a smaller one, and a later one leaves room too.
 pub fn e_finds_the_smallest_deadline() -> u8
     ensures { λ _. ⌜ E-finds-the-smallest-deadline ⌝ }
+{
+    0
+}
+
+// The smallest deadline of an entry is the end to which full intervals push it, so that one pass over the deadlines finds it.
+pub fn pushes_give_the_smallest_deadline() -> u8
+    ensures { λ _. ⌜ Pushes-give-the-smallest-deadline ⌝ }
 {
     0
 }

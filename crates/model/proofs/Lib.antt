@@ -4,3 +4,5 @@ pub mod Largest
 pub mod Same
 pub mod Mirrors
 pub mod Cuts
+pub mod Ceilings
+pub mod Bounds
