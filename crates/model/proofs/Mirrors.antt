@@ -12,6 +12,7 @@ use Rattle.model.specs.declared.entries.Entry.{Entry}
 use Rattle.model.specs.Total.{total}
 use Rattle.model.specs.Sheets.{Sheet, Sound-entry, Sound, Placement, No-placement, count, entry, blank, demand-at, horizon, mirror, mirror-entry, mirror-entries}
 use Rattle.model.proofs.Sums.{total-ext, total-le}
+use Rattle.model.proofs.Same.{same-entry, same-sheets}
 
 -- The same tasks, place by place, whatever the windows.
 pub record Same-tasks (s u : Sheet) : Type 0 where
@@ -72,4 +73,31 @@ mirror-placement s sound start p =
           total (count s) (λ k. demand-at (start k) (4031 - t) (entry s k)) =
           total-le (count s) _ _ (λ k l. rw (mirror-at s k l) (backwards (entry s k) (start k) t (omega (arith, p .in-time k l, sound .each k l)))) in
           omega (arith, p .within (4031 - t) (omega arith)));
+    }
+
+-- seen twice from the other end, an entry is itself
+pub mirror-entry-twice : (c : ℕ) (e : Entry) → Sound-entry c e → mirror-entry (mirror-entry e) ≡ e
+mirror-entry-twice c e good = same-entry (mirror-entry (mirror-entry e)) e (omega arith) (omega arith) refl refl
+
+pub mirror-twice : (s : Sheet) → Sound s → mirror (mirror s) ≡ s
+mirror-twice s sound =
+    same-sheets (mirror (mirror s)) s refl (mirror-count (mirror s) ∙ mirror-count s)
+    (λ k l.
+    let l1 : k < count (mirror s) = rw (← mirror-count (mirror s)) l in
+    let l2 : k < count s = rw (← mirror-count s) l1 in
+    mirror-at (mirror s) k l1 ∙ ap mirror-entry (mirror-at s k l2) ∙ mirror-entry-twice (s .capacity) (entry s k) (sound .each k l2))
+
+-- the placements of the mirror, read backwards, are placements of the sheet
+pub mirror-placement-back : (s : Sheet) → Sound s → (start : ℕ → ℕ) → Placement (mirror s) start →
+    Placement s (λ k. horizon - (start k + entry s k .duration))
+mirror-placement-back s sound start p =
+    let back = rw (mirror-twice s sound) at (mirror-placement (mirror s) (mirror-sound s sound) start p) in
+    record {
+      released = λ k l. let d = ap (λ (e : Entry). e .duration) (mirror-at s k l) in omega (arith, back .released k l);
+      in-time = λ k l. let d = ap (λ (e : Entry). e .duration) (mirror-at s k l) in omega (arith, back .in-time k l);
+      within = λ t h.
+          let e : total (count s) (λ k. demand-at (horizon - (start k + entry s k .duration)) t (entry s k)) ≡
+          total (count s) (λ k. demand-at (horizon - (start k + entry (mirror s) k .duration)) t (entry s k)) =
+          total-ext (count s) _ _ (λ k l. rw (mirror-at s k l) refl) in
+          omega (arith, back .within t h);
     }

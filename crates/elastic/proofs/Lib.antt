@@ -1,0 +1,10 @@
+pub mod Hall
+pub mod Exact
+pub mod Placed
+pub mod Mirrored
+pub mod Deadlines
+pub mod Searches
+pub mod IsE
+pub mod Law
+pub mod Examples
+pub mod Pushed
