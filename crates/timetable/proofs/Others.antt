@@ -5,9 +5,9 @@ use mathlib.Core.Logic.{_⊎_, inl, inr}
 use mathlib.Core.Bool.{cond}
 use lib.Dec.{eqb}
 use native.Mathlib.Omega.{arith}
-use Rattle.std.proofs.shelf.Tests.{cases-lt, cases-eq, eq-eqb, ne-eqb}
+use Rattle.std.proofs.shelf.Tests.{cases-eq, eq-eqb, ne-eqb}
 use Rattle.model.specs.Total.{total}
-use Rattle.model.proofs.Sums.{total-ext, total-more}
+use Rattle.model.proofs.Sums.{total-ext, total-le}
 
 -- f, and 0 at place k
 abbrev pub without : ℕ → (ℕ → ℕ) → ℕ → ℕ
@@ -33,3 +33,10 @@ total-without (suc n) k f l =
           let there = without-else k f n (λ e. d (sym e)) in
           omega (arith, total-without n k f (omega arith))
     ]
+
+pub without-le : (n k : ℕ) (f g : ℕ → ℕ) → ((j : ℕ) → j < n → f j ≤ g j) → total n (without k f) ≤ total n (without k g)
+without-le n k f g h =
+    total-le n _ _ (λ j l. elim (cases-eq j k) [
+      | inl e ↦ rw e (omega (arith, without-here k f))
+      | inr d ↦ omega (arith, without-else k f j d, without-else k g j d, h j l)
+    ])

@@ -20,7 +20,7 @@ use Rattle.model.proofs.Sums.{total-le, total-ext}
 use Rattle.model.proofs.Search.{named-unique}
 use Rattle.timetable.specs.Meaning.{first-of, crowded?, slot, first-crowded, taken?, room?, first-room, earliest-T, meaning-T}
 use Rattle.timetable.specs.Theorems.{T-keeps-the-law}
-use Rattle.timetable.proofs.Others.{without, total-without, without-else, without-here}
+use Rattle.timetable.proofs.Others.{without, total-without, without-le}
 use Rattle.timetable.proofs.Searches.{Found, found}
 
 -- ---- the usage of others
@@ -53,16 +53,8 @@ module _ (s : Sheet) (start : ℕ → ℕ) (p : Placement s start) where
   room-there sound k l t low high =
       let runs : ℕ → ℕ = λ j. demand-at (start j) t (entry s j) in
       let le : usage-of-others s k t ≤ total (count s) (without k runs) =
-      total-le (count s) _ _ (λ j b. elim (cases-eq j k) [
-        | inl e ↦ rw e (omega (arith, without-here k (λ j. fixed-at t (entry s j))))
-        | inr d ↦
-            omega (
-              arith,
-              without-else k (λ j. fixed-at t (entry s j)) j d,
-              without-else k runs j d,
-              fixed-runs (entry s j) (start j) t (p .released j b) (p .in-time j b),
-            )
-      ]) in
+      without-le (count s) k (λ j. fixed-at t (entry s j)) runs
+      (λ j b. fixed-runs (entry s j) (start j) t (p .released j b) (p .in-time j b)) in
       let whole = total-without (count s) k runs l in
       let here : runs k ≡ entry s k .demand = runs-there (entry s k) (start k) t low high in
       let inside : t < horizon = omega (arith, p .in-time k l, sound .each k l) in
