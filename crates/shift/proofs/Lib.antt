@@ -6,3 +6,4 @@ pub mod LeastSlack
 pub mod Spent
 pub mod Listed
 pub mod RuleS
+pub mod ByPairs
