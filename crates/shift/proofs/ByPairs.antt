@@ -1,5 +1,5 @@
 -- What a search over pairs of entries has to show, so that its answers are those of S.
-use Prim.Native.Nat.{ℕ, _+_, _-_, _*_, _≤_, _<_}
+use Prim.Native.Nat.{ℕ, _+_, _-_, _≤_, _<_}
 use mathlib.Core.Path.{_≡_}
 use mathlib.Core.Logic.{_⊎_}
 use native.Mathlib.Omega.{arith}

@@ -1,24 +1,12 @@
 -- An interval of greatest excess, and among those of greatest length, is a candidate.
-use Prim.Native.Nat.{ℕ, zero, suc, _+_, _-_, _*_, _<_, _≤_}
+use Prim.Native.Nat.{ℕ, _+_, _-_, _*_, _<_, _≤_}
 use mathlib.Core.Path.{_≡_, ap, sym}
 use mathlib.Core.Logic.{_≢_, _⊎_, inl, inr}
 use native.Mathlib.Omega.{arith}
 use native.Mathlib.Decide.{decLe, decLt, ℕ-discrete}
 use Rattle.model.specs.declared.entries.Entry.{Entry}
 use Rattle.model.specs.Sheets.{Sheet, Sound, count, entry, horizon}
-use Rattle.model.specs.Energy.{
-  held,
-  energy,
-  Is-interval,
-  Some-entry,
-  Starts,
-  Ends,
-  Partners,
-  Candidate,
-  Negative-slack,
-  Negative-somewhere,
-}
-use Rattle.model.specs.Shift.{Negative-candidate}
+use Rattle.model.specs.Energy.{energy, Is-interval, Some-entry, Starts, Ends, Partners, Candidate, Negative-slack}
 use Rattle.model.proofs.Search.{least}
 use Rattle.model.proofs.Largest.{Largest-pair, largest-pair}
 use Rattle.shift.specs.Theorems.{Least-slack-is-at-a-candidate}

@@ -1,23 +1,22 @@
 -- The list of candidates has every candidate, and nothing else that is an interval.
-use Prim.Native.Nat.{ℕ, zero, suc, _+_, _-_, _*_, _<_, _≤_, max}
-use mathlib.Core.Path.{_≡_, refl, sym, ap, _∙_}
+use Prim.Native.Nat.{ℕ, _+_, _-_, _<_, _≤_}
+use mathlib.Core.Path.{_≡_, refl, sym, _∙_}
 use mathlib.Core.Logic.{_⊎_, inl, inr}
-use mathlib.Core.Bool.{Bool, true, false, cond, _&&_, _||_}
+use mathlib.Core.Bool.{Bool, true, false}
 use mathlib.Core.List.{List, [], _∷_, _++_}
-use lib.Dec.{leb, ltb, eqb}
 use native.Mathlib.Omega.{arith}
 use Rattle.std.specs.declared.option.Option.{Option}
 use Rattle.std.specs.declared.option.Option.the-variants.{Some, None}
 use Rattle.std.specs.shelf.Lists.{All}
 use Rattle.std.proofs.shelf.Elements.{all-append, all-getD, all-from-getD, all-weaker}
 use Rattle.std.proofs.shelf.Ways.{tells}
-use Rattle.std.proofs.shelf.Tests.{cases-lt, cases-bool, le-leb, cond-both, false≢true}
+use Rattle.std.proofs.shelf.Tests.{cases-lt, cond-both, false≢true}
 use Rattle.model.specs.declared.entries.Entry.{Entry}
 use Rattle.model.specs.declared.intervals.Interval.{Interval}
-use Rattle.model.specs.Sheets.{Sheet, count, entry, blank, horizon}
-use Rattle.model.specs.Energy.{Is-interval, Starts, Ends, Partners, Start-point, End-point, Partner-points, Candidate}
+use Rattle.model.specs.Sheets.{Sheet, count, entry, blank}
+use Rattle.model.specs.Energy.{Is-interval, Starts, Ends, Partners, Start-point, End-point, Candidate}
 use Rattle.model.specs.Rules.{No-later}
-use Rattle.shift.specs.Meaning.{from-to, from-start, to-end, made-by, gather, candidates, no-later?, sooner, first-that, greatest}
+use Rattle.shift.specs.Meaning.{from-start, to-end, made-by, gather, candidates, no-later?, sooner, first-that, greatest}
 
 -- ---- gathered lists
 all-split : (P : Interval → Type 0) (xs ys : List Interval) → All P (xs ++ ys) → All P xs × All P ys

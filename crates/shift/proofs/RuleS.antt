@@ -1,19 +1,18 @@
 -- S and its law.
-use Prim.Native.Nat.{ℕ, zero, suc, _+_, _-_, _*_, _≤_, _<_, max}
-use mathlib.Core.Path.{_≡_, refl, sym, ap, _∙_}
+use Prim.Native.Nat.{ℕ, _+_, _-_, _*_, _≤_, _<_}
+use mathlib.Core.Path.{_≡_, refl, ap, _∙_}
 use mathlib.Core.Logic.{_⊎_, inl, inr}
-use mathlib.Core.Bool.{Bool, true, false, cond, _&&_}
+use mathlib.Core.Bool.{true, _&&_}
 use lib.Dec.{leb, ltb}
 use native.Mathlib.Omega.{arith}
 use Rattle.std.specs.declared.option.Option.{Option}
 use Rattle.std.specs.declared.option.Option.the-variants.{Some, None}
-use Rattle.std.specs.shelf.Lists.{All}
 use Rattle.std.proofs.shelf.Elements.{all-weaker}
-use Rattle.std.proofs.shelf.Tests.{cases-lt, cases-bool, and-parts, and-from, lt-ltb, le-ltb, le-leb, ltb-true, leb-true, cond-true, cond-false}
+use Rattle.std.proofs.shelf.Tests.{cases-bool, and-parts, and-from, lt-ltb, le-ltb, le-leb, ltb-true, leb-true, cond-true, cond-false}
 use Rattle.model.specs.declared.intervals.Interval.{Interval}
 use Rattle.model.specs.Sheets.{Sheet, Sound, Placement, count, entry, horizon}
-use Rattle.model.specs.Energy.{Is-interval, energy, Candidate, Negative-slack, Negative-somewhere, lack, ceiling, Forced-end}
-use Rattle.model.specs.Rules.{Meaning, Lawful, Proper, Named, No-later}
+use Rattle.model.specs.Energy.{Is-interval, energy, Negative-somewhere, lack, ceiling, Forced-end}
+use Rattle.model.specs.Rules.{Meaning, Lawful, Named, No-later}
 use Rattle.model.specs.Shift.{Negative-candidate, Greatest-start, Is-S}
 use Rattle.model.proofs.Search.{named-unique}
 use Rattle.shift.specs.Meaning.{

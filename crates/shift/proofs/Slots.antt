@@ -3,7 +3,7 @@ use Prim.Native.Nat.{ℕ, _+_, _-_, _*_, _<_, _≤_, min}
 use mathlib.Core.Path.{_≡_}
 use native.Mathlib.Omega.{arith}
 use Rattle.model.specs.declared.entries.Entry.{Entry}
-use Rattle.model.specs.Energy.{held, left-part, right-part, Starts, Ends, Partners}
+use Rattle.model.specs.Energy.{held, left-part, Starts, Ends, Partners}
 
 -- Where the end stands at no point of the entry, what it holds is convex in the end; and so of the start, and of both.
 pub end-convex : (e : Entry) (t1 t2 : ℕ) → e .release + e .duration ≤ e .deadline → t1 < t2 → ¬ Ends t2 e → ¬ Partners t1 t2 e →

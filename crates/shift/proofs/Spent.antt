@@ -1,21 +1,21 @@
 -- What a placement spends in an interval: at least the energies, and so late an entry ends.
-use Prim.Native.Nat.{ℕ, zero, suc, _+_, _-_, _*_, _/_, _<_, _≤_, min, max}
-use mathlib.Core.Path.{_≡_, refl, ap, sym, _∙_}
-use mathlib.Core.Logic.{_⊎_, inl, inr}
+use Prim.Native.Nat.{ℕ, zero, suc, _+_, _-_, _*_, _<_, _≤_, min, max}
+use mathlib.Core.Path.{_≡_, ap, _∙_}
 use mathlib.Core.Bool.{cond, _&&_}
-use native.Mathlib.Nat.{mul-le-mul-left, div-lt-iff-lt-mul, mul-zero}
+use native.Mathlib.Nat.{mul-le-mul-left}
 use native.Mathlib.Omega.{arith}
-use native.Mathlib.Decide.{decLe, decLt}
+use native.Mathlib.Decide.{decLt}
 use lib.Dec.{leb, ltb}
 use Rattle.std.proofs.shelf.Ways.{tells}
 use Rattle.model.specs.declared.entries.Entry.{Entry}
 use Rattle.model.specs.Total.{total}
 use Rattle.model.specs.Sheets.{Sheet, Sound, Placement, count, entry, horizon, demand-at}
-use Rattle.model.specs.Energy.{left-part, right-part, held, energy-of, energy, Is-interval, Negative-slack, energy-of-others, lack, ceiling}
+use Rattle.model.specs.Energy.{left-part, held, energy-of, energy, Is-interval, Negative-slack, energy-of-others, lack, ceiling}
 use Rattle.model.proofs.Sums.{total-le, total-ext, total-add, total-zero}
 use Rattle.shift.proofs.Others.{without, total-without, without-le}
-use Rattle.shift.proofs.Slots.{held-early, early-after}
-use Rattle.shift.proofs.Energies.{energy-is, energy-split, lack-by-energy}
+use Rattle.shift.proofs.Clipped.{quotients-round-up}
+use Rattle.shift.proofs.Slots.{early-after}
+use Rattle.shift.proofs.Energies.{energy-is, lack-by-energy}
 
 -- ---- one entry
 
@@ -106,8 +106,7 @@ module _ (s : Sheet) (start : ℕ → ℕ) (p : Placement s start) where
 
 -- ---- forced ends
 ceiling-le : (x c k : ℕ) → 1 ≤ c → x ≤ k * c → ceiling x c ≤ k
-ceiling-le x c k h l =
-    let below = div-lt-iff-lt-mul {k = c} {x = x + (c - 1)} {y = k + 1} h .1 (omega arith) in omega arith
+ceiling-le x c k h l = quotients-round-up x c k h .1 (omega arith)
 
 -- m slots are wanted, ov are taken, and room is left for no more: what is lacking is at most c for each slot in between
 lacking : (c m ov other room : ℕ) → other + c * ov ≤ room → 0 < (other + c * m) - room → (ov < m) × ((other + c * m) - room ≤ (m - ov) * c)

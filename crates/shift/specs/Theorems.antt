@@ -1,15 +1,15 @@
 -- What is proved of S.
-use Prim.Native.Nat.{ℕ, _-_, _*_}
+use Prim.Native.Nat.{ℕ, _-_, _*_, _≤_}
 use mathlib.Core.Path.{_≡_}
 use mathlib.Core.Logic.{_↔_}
-use lib.IntN.{ℤ, pos, _-ℤ_}
+use lib.IntN.{pos, _-ℤ_}
 use lib.Signed.{_<ℤ_}
 use Rattle.std.specs.declared.option.Option.the-variants.{Some, None}
 use Rattle.std.specs.Numbers.{maxZ}
 use Rattle.model.specs.declared.entries.Entry.{Entry}
 use Rattle.model.specs.declared.intervals.Interval.{Interval}
 use Rattle.model.specs.Sheets.{Sheet, Sound}
-use Rattle.model.specs.Energy.{left-part, right-part, energy, Negative-slack, Negative-somewhere, Least-slack}
+use Rattle.model.specs.Energy.{left-part, right-part, energy, ceiling, Negative-slack, Negative-somewhere, Least-slack}
 use Rattle.model.specs.Rules.{Meaning, Lawful}
 use Rattle.model.specs.Shift.{Negative-candidate, Is-S}
 use Rattle.shift.specs.Meaning.{meaning-S}
@@ -37,3 +37,7 @@ pub record Parts-are-clipped : Type 0 where
       pos (right-part e t2) ≡ maxZ (pos 0) (pos (e .duration) -ℤ maxZ (pos 0) (pos (e .deadline) -ℤ pos t2))
   pub slack : (s : Sheet) (t1 t2 : ℕ) →
       Negative-slack s t1 t2 ↔ ((pos (s .capacity * (t2 - t1)) -ℤ pos (energy s t1 t2)) <ℤ pos 0)
+
+-- The quotient rounded up is the least number of slots in which c a slot makes x.
+abbrev pub Quotients-round-up : Type 0
+Quotients-round-up = (x c slots : ℕ) → 1 ≤ c → (ceiling x c ≤ slots) ↔ (x ≤ c * slots)

@@ -1,24 +1,22 @@
 -- T and its law.
-use Prim.Native.Nat.{ℕ, zero, suc, _+_, _-_, _*_, _≤_, _<_}
-use mathlib.Core.Path.{_≡_, refl, sym, ap, _∙_}
+use Prim.Native.Nat.{ℕ, _+_, _-_, _≤_, _<_}
+use mathlib.Core.Path.{_≡_, refl, ap, _∙_}
 use mathlib.Core.Logic.{_⊎_, inl, inr}
-use mathlib.Core.Bool.{Bool, true, false, cond, _&&_}
-use lib.Dec.{leb, ltb, eqb}
+use mathlib.Core.Bool.{true, false}
 use native.Mathlib.Omega.{arith}
 use Rattle.std.specs.declared.option.Option.{Option}
 use Rattle.std.specs.declared.option.Option.the-variants.{Some, None}
 use Rattle.std.proofs.shelf.Ways.{tells}
-use Rattle.std.proofs.shelf.Tests.{cases-lt, cases-eq, cases-bool, lt-ltb, le-ltb, ltb-true, ltb-false, eqb-true, eqb-false, cond-true, cond-false}
+use Rattle.std.proofs.shelf.Tests.{cases-lt, cases-eq, lt-ltb, le-ltb, ltb-true, ltb-false, eqb-true, eqb-false}
 use Rattle.model.specs.declared.entries.Entry.{Entry}
 use Rattle.model.specs.declared.intervals.Interval.{Interval}
 use Rattle.model.specs.Total.{total}
-use Rattle.model.specs.Sheets.{Sheet, Sound, Placement, No-placement, count, entry, horizon, demand-at}
-use Rattle.model.specs.Energy.{Is-interval}
-use Rattle.model.specs.Rules.{Meaning, Lawful, Proper, Named, No-later}
+use Rattle.model.specs.Sheets.{Sheet, Sound, Placement, count, entry, horizon, demand-at}
+use Rattle.model.specs.Rules.{Meaning, Lawful, Named}
 use Rattle.model.specs.TimeTable.{fixed-at, usage, usage-of-others, Crowded, Room-at, First-room, No-room, Is-T}
-use Rattle.model.proofs.Sums.{total-le, total-ext}
+use Rattle.model.proofs.Sums.{total-le}
 use Rattle.model.proofs.Search.{named-unique}
-use Rattle.timetable.specs.Meaning.{first-of, crowded?, slot, first-crowded, taken?, room?, first-room, earliest-T, meaning-T}
+use Rattle.timetable.specs.Meaning.{first-of, crowded?, slot, first-crowded, taken?, room?, first-room, meaning-T}
 use Rattle.timetable.specs.Theorems.{T-keeps-the-law}
 use Rattle.timetable.proofs.Others.{without, total-without, without-le}
 use Rattle.timetable.proofs.Searches.{Found, found}
