@@ -1,0 +1,9 @@
+pub mod Others
+pub mod Slots
+pub mod Energies
+pub mod Clipped
+pub mod LeastSlack
+pub mod Spent
+pub mod Listed
+pub mod RuleS
+pub mod ByPairs
