@@ -13,7 +13,7 @@ use Rattle.model.specs.declared.rows.Pair.{Pair}
 use Rattle.model.specs.declared.rows.Row.{Row}
 use Rattle.model.specs.declared.windows.Window.{Window}
 use Rattle.model.specs.Changes.{reset, rebooked}
-use Rattle.board.specs.Limits.{row-at, no-row, Each-row, Named, Sized, Windowed, Apart, Sound-rows}
+use Rattle.model.specs.Limits.{row-at, no-row, Each-row, Named, Sized, Windowed, Apart, Sound-rows}
 use Rattle.board.specs.declared.bookings.Test.{Test}
 use Rattle.board.specs.Calls.{Bookings, Stands-at, Free, Nothing, Wrong, Misfit, row-of, pair, instant, long, idle, greedy, window, taken, full}
 use Rattle.board.specs.declared.refusals.Refusal.the-variants.{Duration, Demand, Window as Misfits, Taken, Full}

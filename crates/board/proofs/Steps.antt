@@ -9,7 +9,7 @@ use Rattle.model.specs.declared.rows.Pair.{Pair}
 use Rattle.model.specs.declared.rows.Row.{Row}
 use Rattle.model.specs.Changes.{reset, rebooked}
 use Rattle.board.specs.declared.bookings.Test.{Test}
-use Rattle.board.specs.Limits.{row-at}
+use Rattle.model.specs.Limits.{row-at}
 use Rattle.board.specs.Calls.{Bookings, Nothing, Wrong, Misfit, Stands-at, Builds, makes, Enters, adds, row-of, Withdraws, removes, Rebooks, moves}
 
 -- A board of a capacity with some rows.

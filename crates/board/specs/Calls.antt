@@ -13,7 +13,7 @@ use Rattle.board.specs.declared.refusals.Refusal.{Refusal}
 use Rattle.board.specs.declared.refusals.Refusal.the-variants as refusal
 use Rattle.board.specs.declared.bookings.Test.{Test}
 use Rattle.board.specs.Refusals.{number-of}
-use Rattle.board.specs.Limits.{profile-max, bearer-min, bearer-max, row-at, Sound-rows}
+use Rattle.model.specs.Limits.{profile-max, bearer-min, bearer-max, row-at, Sound-rows}
 use Rattle.model.specs.Changes.{reset, rebooked}
 
 -- What a board holds: its capacity, and its rows in order of entry.

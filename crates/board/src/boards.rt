@@ -1,7 +1,7 @@
 // The board, with what holds of every board.
 ghost use Prim.Native.Nat.{_≤_};
 ghost use Rattle.std.specs.Of.Vec.{vec-items, vec-len, vec-cap};
-ghost use Rattle.board.specs.Limits.{Each-row, Named, Sized, Windowed, Apart};
+ghost use Rattle.model.specs.Limits.{Each-row, Named, Sized, Windowed, Apart};
 ghost use Rattle.model.specs.Sheets.{capacity-max, rows-max};
 use crate::table::Table;
 

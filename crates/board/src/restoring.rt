@@ -3,7 +3,7 @@ ghost use Prim.Native.Nat.{ℕ, _≤_, _<_};
 ghost use mathlib.Core.Path.{_≡_};
 ghost use lib.ListN.{length, take};
 ghost use Rattle.board.specs.Held.{bookings, kept};
-ghost use Rattle.board.specs.Limits.{row-at};
+ghost use Rattle.model.specs.Limits.{row-at};
 use crate::boards::Board;
 use crate::saved::Saved;
 use model::rows::Pair;

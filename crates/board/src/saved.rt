@@ -2,7 +2,7 @@
 ghost use Prim.Native.Nat.{_≤_};
 ghost use lib.ListN.{take};
 ghost use Rattle.model.specs.Sheets.{capacity-max, rows-max};
-ghost use Rattle.board.specs.Limits.{Each-row, Named, Sized, Windowed, Apart};
+ghost use Rattle.model.specs.Limits.{Each-row, Named, Sized, Windowed, Apart};
 use model::rows::Row;
 
 // The capacity, and the rows, of which the first `count` stand.

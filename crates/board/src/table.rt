@@ -5,7 +5,7 @@ ghost use mathlib.Core.List.{[], _∷_, _++_, map};
 ghost use lib.ListN.{length, set};
 ghost use Rattle.std.specs.Holes.{removed};
 ghost use Rattle.std.specs.Of.Vec.{vec-items, vec-len, vec-cap};
-ghost use Rattle.board.specs.Limits.{row-at};
+ghost use Rattle.model.specs.Limits.{row-at};
 ghost use Rattle.model.specs.Changes.{reset, rebooked};
 use model::rows::Row;
 use model::windows::Window;

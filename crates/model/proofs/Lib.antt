@@ -6,3 +6,4 @@ pub mod Mirrors
 pub mod Cuts
 pub mod Ceilings
 pub mod Bounds
+pub mod Others

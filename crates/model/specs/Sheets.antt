@@ -5,6 +5,8 @@ use mathlib.Core.Bool.{cond, _&&_}
 use mathlib.Core.List.{List, map}
 use lib.ListN.{length, getD, set}
 use lib.Dec.{leb, ltb}
+use Rattle.std.specs.declared.option.Option.{Option}
+use Rattle.std.specs.declared.option.Option.the-variants.{Some, None}
 use Rattle.model.specs.declared.entries.Entry.{Entry}
 use Rattle.model.specs.Total.{total}
 
@@ -36,6 +38,10 @@ blank = record { release = 0; deadline = 0; duration = 0; demand = 0 }
 -- The entry at a place, counted from 0.
 abbrev pub entry : Sheet → ℕ → Entry
 entry s k = getD (s .entries) k blank
+
+-- The entry at a place, absent from the count upward.
+abbrev pub entry-at : Sheet → ℕ → Option Entry
+entry-at s k = cond (ltb k (count s)) (Some (entry s k)) None
 
 -- An entry within the limits of a capacity.
 pub record Sound-entry (capacity : ℕ) (e : Entry) : Type 0 where

@@ -8,7 +8,7 @@ use Rattle.model.specs.Total.{total}
 use Rattle.model.specs.Sheets.{Sheet, count, entry}
 use Rattle.model.specs.Energy.{held, left-part, energy-of, energy, energy-of-others, lack}
 use Rattle.model.proofs.Sums.{total-le, total-ext, total-add, total-scale, total-zero}
-use Rattle.shift.proofs.Others.{total-without}
+use Rattle.model.proofs.Others.{total-without}
 use Rattle.shift.proofs.Slots.{held-none, held-early, early-within}
 
 pub energy-is : (e : Entry) (t1 t2 : ℕ) → energy-of e t1 t2 ≡ e .demand * held e t1 t2

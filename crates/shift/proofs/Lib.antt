@@ -1,4 +1,3 @@
-pub mod Others
 pub mod Slots
 pub mod Energies
 pub mod Clipped

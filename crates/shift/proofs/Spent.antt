@@ -12,7 +12,7 @@ use Rattle.model.specs.Total.{total}
 use Rattle.model.specs.Sheets.{Sheet, Sound, Placement, count, entry, horizon, demand-at}
 use Rattle.model.specs.Energy.{left-part, held, energy-of, energy, Is-interval, Negative-slack, energy-of-others, lack, ceiling}
 use Rattle.model.proofs.Sums.{total-le, total-ext, total-add, total-zero}
-use Rattle.shift.proofs.Others.{without, total-without, without-le}
+use Rattle.model.proofs.Others.{without, total-without, without-le}
 use Rattle.shift.proofs.Clipped.{quotients-round-up}
 use Rattle.shift.proofs.Slots.{early-after}
 use Rattle.shift.proofs.Energies.{energy-is, lack-by-energy}

@@ -18,7 +18,7 @@ use Rattle.model.proofs.Sums.{total-le}
 use Rattle.model.proofs.Search.{named-unique}
 use Rattle.timetable.specs.Meaning.{first-of, crowded?, slot, first-crowded, taken?, room?, first-room, meaning-T}
 use Rattle.timetable.specs.Theorems.{T-keeps-the-law}
-use Rattle.timetable.proofs.Others.{without, total-without, without-le}
+use Rattle.model.proofs.Others.{without, total-without, without-le}
 use Rattle.timetable.proofs.Searches.{Found, found}
 
 -- ---- the usage of others

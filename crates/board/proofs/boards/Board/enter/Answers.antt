@@ -4,7 +4,7 @@ use native.Mathlib.Omega.{arith}
 use Rattle.std.specs.Of.Vec.{vec-items}
 use Rattle.board.specs.Held.{bookings}
 use Rattle.board.specs.Calls.{refuses}
-use Rattle.board.specs.Limits.{Sound-rows}
+use Rattle.model.specs.Limits.{Sound-rows}
 use Rattle.board.proofs.Kept.{fine-test, Fine, sound-added}
 use Rattle.board.proofs.Steps.{enters-added}
 use Rattle.board.proofs.boards.Board.enter.Needs as need

@@ -2,7 +2,7 @@
 use Prim.Native.Nat.{ℕ, _<_}
 use mathlib.Core.Path.{_≡_}
 use Rattle.std.specs.Of.Vec.{vec-items}
-use Rattle.board.specs.Limits.{row-at}
+use Rattle.model.specs.Limits.{row-at}
 use Rattle.board.proofs.boards.Board.find.Given as given
 
 abbrev pub Inv-loop-i : given.InvT-loop-i

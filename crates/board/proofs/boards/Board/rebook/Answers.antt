@@ -7,7 +7,7 @@ use Rattle.std.specs.Of.Vec.{vec-items}
 use Rattle.model.specs.declared.rows.Row.{Row}
 use Rattle.model.specs.Changes.{reset}
 use Rattle.board.specs.Held.{bookings}
-use Rattle.board.specs.Limits.{row-at}
+use Rattle.model.specs.Limits.{row-at}
 use Rattle.board.specs.Calls.{Misfit, unfit}
 use Rattle.board.specs.Calls as calls
 use Rattle.board.proofs.Kept.{sound-rebooked}

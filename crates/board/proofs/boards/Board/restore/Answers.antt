@@ -4,7 +4,7 @@ use native.Mathlib.Omega.{arith}
 use borrow.Author.Needs.{needs}
 use lib.ListN.{length, take}
 use Rattle.std.specs.Of.Vec.{vec-items}
-use Rattle.board.specs.Limits.{Sound-rows}
+use Rattle.model.specs.Limits.{Sound-rows}
 use Rattle.board.proofs.boards.Board.restore.Needs as need
 
 pub ghost-self : need.ghost-self

@@ -5,7 +5,7 @@ use mathlib.Core.List.{[], _∷_, _++_}
 use native.Mathlib.Omega.{arith}
 use lib.ListN.{length, getD, take}
 use Rattle.std.proofs.shelf.Lists.{take-all, take-more}
-use Rattle.board.specs.Limits.{no-row}
+use Rattle.model.specs.Limits.{no-row}
 use Rattle.board.proofs.table.Table.refill.Needs as need
 
 pub loop-i-again : need.loop-i-again

@@ -5,7 +5,7 @@ use mathlib.Core.List.{List, [], _∷_, _++_, append-assoc, append-nil}
 use native.Mathlib.Omega.{arith}
 use lib.ListN.{getD, drop}
 use Rattle.std.proofs.shelf.Lists.{at-drop-more, at-drop-all}
-use Rattle.board.specs.Limits.{row-at, no-row}
+use Rattle.model.specs.Limits.{row-at, no-row}
 use Rattle.report.specs.Lines.{row-line, row-lines}
 use Rattle.report.specs.Shown.{shown}
 use Rattle.report.proofs.texts.Text.rows.Needs as need
