@@ -1,8 +1,8 @@
 -- Cut-off subtraction beside the integers, and the quotient rounded up.
-use Prim.Native.Nat.{_+_, _-_}
-use native.Mathlib.Nat.{div-lt-iff-lt-mul}
+use native.Mathlib.Nat.{mul-le-mul-left}
 use native.Mathlib.Omega.{arith}
 use Rattle.std.proofs.shelf.Signed.{ints, clamps}
+use Rattle.model.proofs.Ceilings.{ceiling-up, ceiling-least}
 use Rattle.shift.specs.Theorems.{Parts-are-clipped, Quotients-round-up}
 
 pub parts-are-clipped : Parts-are-clipped
@@ -14,8 +14,7 @@ parts-are-clipped =
     }
 
 pub quotients-round-up : Quotients-round-up
-quotients-round-up x c slots h =
-    let below = div-lt-iff-lt-mul {k = c} {x = x + (c - 1)} {y = slots + 1} h in (
-      λ le. let l = below .0 (omega arith) in omega arith,
-      λ le. let l = below .1 (omega arith) in omega arith,
-    )
+quotients-round-up x c slots h = (
+  λ enough. omega (arith, ceiling-up x c h, mul-le-mul-left c enough),
+  λ enough. ceiling-least x c slots h enough,
+)

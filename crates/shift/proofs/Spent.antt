@@ -12,8 +12,8 @@ use Rattle.model.specs.Total.{total}
 use Rattle.model.specs.Sheets.{Sheet, Sound, Placement, count, entry, horizon, demand-at}
 use Rattle.model.specs.Energy.{left-part, held, energy-of, energy, Is-interval, Negative-slack, energy-of-others, lack, ceiling}
 use Rattle.model.proofs.Sums.{total-le, total-ext, total-add, total-zero}
+use Rattle.model.proofs.Ceilings.{ceiling-least}
 use Rattle.model.proofs.Others.{without, total-without, without-le}
-use Rattle.shift.proofs.Clipped.{quotients-round-up}
 use Rattle.shift.proofs.Slots.{early-after}
 use Rattle.shift.proofs.Energies.{energy-is, lack-by-energy}
 
@@ -105,11 +105,8 @@ module _ (s : Sheet) (start : ℕ → ℕ) (p : Placement s start) where
       omega (arith, total-without (count s) k (spends t1 t2) l, spent-within t1 t2 i)
 
 -- ---- forced ends
-ceiling-le : (x c k : ℕ) → 1 ≤ c → x ≤ k * c → ceiling x c ≤ k
-ceiling-le x c k h l = quotients-round-up x c k h .1 (omega arith)
-
 -- m slots are wanted, ov are taken, and room is left for no more: what is lacking is at most c for each slot in between
-lacking : (c m ov other room : ℕ) → other + c * ov ≤ room → 0 < (other + c * m) - room → (ov < m) × ((other + c * m) - room ≤ (m - ov) * c)
+lacking : (c m ov other room : ℕ) → other + c * ov ≤ room → 0 < (other + c * m) - room → (ov < m) × ((other + c * m) - room ≤ c * (m - ov))
 lacking c m ov other room fits x =
     elim (decLt ov m) [
       | no l ↦ let t : m ≤ ov = omega arith in absurd (omega (arith, mul-le-mul-left c t))
@@ -127,7 +124,7 @@ ends-late s sound start p k l t1 t2 i short =
     let ov = overlap (start k) (e .duration) t1 t2 in
     let (less, few) = lacking (e .demand) m ov (energy-of-others s k t1 t2) (s .capacity * (t2 - t1)) (others-spent s start p k l t1 t2 i) short in
     let far = late e (start k) t1 t2 (p .released k l) (i .ordered) less in
-    let by = ceiling-le (lack s k t1 t2) (e .demand) (m - ov) (sound .each k l .asks) few in
+    let by = ceiling-least (lack s k t1 t2) (e .demand) (m - ov) (sound .each k l .asks) few in
     omega arith
 
 -- where an interval has no negative slack, it forces no entry past its deadline
@@ -137,6 +134,6 @@ forced-inside s sound k l t1 t2 under before =
     let e = entry s k in
     let m = min (t2 - t1) (left-part e t1) in
     let is = lack-by-energy s k t1 t2 l (omega arith) in
-    let small : lack s k t1 t2 ≤ (m - held e t1 t2) * e .demand = omega arith in
-    let by = ceiling-le (lack s k t1 t2) (e .demand) (m - held e t1 t2) (sound .each k l .asks) small in
+    let small : lack s k t1 t2 ≤ e .demand * (m - held e t1 t2) = omega arith in
+    let by = ceiling-least (lack s k t1 t2) (e .demand) (m - held e t1 t2) (sound .each k l .asks) small in
     omega (arith, early-after e t1 t2 before)
