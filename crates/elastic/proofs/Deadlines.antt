@@ -1,12 +1,11 @@
 -- Elastic schedules of sheets with one deadline cut: an entry can end by a deadline if and only if the cut there is nowhere overfull.
-use Prim.Native.Nat.{ℕ, zero, suc, _+_, _-_, _*_, _≤_, _<_, min}
-use mathlib.Core.Path.{_≡_, refl, sym, ap, _∙_}
-use mathlib.Core.Logic.{_⊎_, inl, inr}
+use Prim.Native.Nat.{ℕ, _+_, _≤_, _<_}
+use mathlib.Core.Path.{_≡_, sym, ap, _∙_}
+use mathlib.Core.Logic.{inl, inr}
 use native.Mathlib.Omega.{arith}
-use Rattle.std.proofs.shelf.Tests.{cases-lt, cases-eq, cases-order}
+use Rattle.std.proofs.shelf.Tests.{cases-eq, cases-order}
 use Rattle.model.specs.declared.entries.Entry.{Entry}
-use Rattle.model.specs.Total.{total}
-use Rattle.model.specs.Sheets.{Sheet, Sound, Elastic, Can-end-by, count, entry, work, horizon, end-at, cut}
+use Rattle.model.specs.Sheets.{Sheet, Sound, Elastic, Can-end-by, count, entry, cut}
 use Rattle.model.specs.Energy.{Nowhere-overfull}
 use Rattle.model.specs.Elastic.{Smallest-deadline}
 use Rattle.model.proofs.Cuts.{cut-count, cut-inside, cut-there, cut-at, cut-sound}

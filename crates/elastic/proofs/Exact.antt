@@ -1,18 +1,18 @@
 -- A sheet has an elastic schedule if and only if it has no overfull interval.
-use Prim.Native.Nat.{ℕ, zero, suc, _+_, _-_, _*_, _≤_, _<_, min}
-use mathlib.Core.Path.{_≡_, refl, sym, ap, _∙_}
+use Prim.Native.Nat.{ℕ, zero, suc, _+_, _-_, _*_, _≤_, _<_}
+use mathlib.Core.Path.{_≡_, refl, ap, _∙_}
 use mathlib.Core.Logic.{_⊎_, inl, inr}
-use mathlib.Core.Bool.{Bool, true, false, cond, _&&_}
-use native.Mathlib.Nat.{mul-add, mul-comm, mul-zero, mul-one, mul-le-mul-right, mul-le-mul-left}
+use mathlib.Core.Bool.{_&&_}
+use native.Mathlib.Nat.{mul-add, mul-comm, mul-zero, mul-le-mul-right, mul-le-mul-left}
 use native.Mathlib.Omega.{arith}
 use lib.Dec.{leb}
 use Rattle.std.proofs.shelf.Tests.{cases-lt, cases-eq, cond-both, and-parts, and-cases, leb-true, leb-false}
 use Rattle.model.specs.Total.{total}
 use Rattle.model.specs.declared.entries.Entry.{Entry}
 use Rattle.model.specs.Sheets.{Sheet, Sound, Elastic, count, entry, work, horizon}
-use Rattle.model.specs.Energy.{Overfull, Nowhere-overfull, work-inside, work-in}
+use Rattle.model.specs.Energy.{Nowhere-overfull, work-inside, work-in}
 use Rattle.model.proofs.Sums.{total-ext, total-le, total-scale, total-swap, total-zero, total-const, total-between, between, below-suc}
-use Rattle.elastic.proofs.Hall.{inside, load, Hall, Filled, fill}
+use Rattle.elastic.proofs.Hall.{inside, load, Filled, fill}
 
 pub find : (n : ℕ) (f : ℕ → ℕ) (a : ℕ) → ((i : ℕ) × (i < n) × (f i ≡ a)) ⊎ ((i : ℕ) → i < n → f i ≡ a → ⊥)
 find zero f a = inr (λ i l e. omega arith)

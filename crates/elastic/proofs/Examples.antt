@@ -1,18 +1,17 @@
 -- A sheet with a placement, one with an elastic schedule and no placement, and one with neither.
-use Prim.Native.Nat.{ℕ, zero, suc, _+_, _-_, _*_, _≤_, _<_}
+use Prim.Native.Nat.{ℕ, zero, suc, _+_, _≤_, _<_}
 use mathlib.Core.Path.{_≡_, refl}
-use mathlib.Core.Bool.{true}
-use mathlib.Core.List.{List, [], _∷_}
+use mathlib.Core.List.{[], _∷_}
 use native.Mathlib.Omega.{arith}
-use lib.Dec.{lit<, lit≤}
+use lib.Dec.{lit<}
 use Rattle.std.specs.declared.option.Option.the-variants.{Some, None}
 use Rattle.std.proofs.shelf.Ways.{tells}
 use Rattle.model.specs.declared.entries.Entry.{Entry}
 use Rattle.model.specs.Total.{total}
-use Rattle.model.specs.Sheets.{Sheet, Sound, Sound-entry, Placement, No-placement, Elastic, count, entry, demand-at, cut-entries}
+use Rattle.model.specs.Sheets.{Sheet, Sound, Sound-entry, Placement, No-placement, Elastic, entry, demand-at, cut-entries}
 use Rattle.model.specs.Energy.{Overfull, Nowhere-overfull}
 use Rattle.model.proofs.Sums.{below-suc}
-use Rattle.elastic.specs.Meaning.{smallest, first-of, overfull-to, overfull-from, evidence-E, smallest-deadline, earliest-E, clear, meaning-E}
+use Rattle.elastic.specs.Meaning.{smallest, first-of, overfull-to, overfull-from, evidence-E, smallest-deadline, earliest-E, meaning-E}
 use Rattle.elastic.specs.Theorems.{Some-fit-and-some-do-not}
 use Rattle.elastic.proofs.Exact.{not-overfull, elastic}
 use Rattle.elastic.proofs.Placed.{placed-elastic}

@@ -1,12 +1,12 @@
 -- Hall's condition on intervals gives a filling, one unit of work after another.
-use Prim.Native.Nat.{ℕ, zero, suc, _+_, _-_, _*_, _≤_, _<_, min}
+use Prim.Native.Nat.{ℕ, zero, suc, _+_, _-_, _*_, _≤_, _<_}
 use mathlib.Core.Path.{_≡_, refl, sym, ap, _∙_}
 use mathlib.Core.Logic.{_⊎_, inl, inr}
 use native.Mathlib.Nat.{mul-add, mul-zero, mul-one, mul-comm, mul-le-mul-right}
 use native.Mathlib.Omega.{arith}
 use Rattle.std.proofs.shelf.Tests.{cases-lt, cases-eq}
 use Rattle.model.specs.Total.{total}
-use Rattle.model.proofs.Sums.{total-ext, total-le, total-add, total-scale, total-zero, total-up, total-at, total-pick, total-is, is, below, last, below-suc}
+use Rattle.model.proofs.Sums.{total-ext, total-le, total-add, total-zero, total-up, total-at, total-pick, total-is, is, below, last, below-suc}
 
 -- 1 where the window r .. d lies inside a .. b, else 0
 abbrev pub inside : ℕ → ℕ → ℕ → ℕ → ℕ

@@ -1,6 +1,6 @@
 -- Every meaning that is E is exact, keeps the law of rules, and where it has nothing to say leaves tight windows.
-use Prim.Native.Nat.{ℕ, zero, suc, _+_, _-_, _*_, _≤_, _<_}
-use mathlib.Core.Path.{_≡_, refl, sym, ap, _∙_}
+use Prim.Native.Nat.{ℕ, _+_, _-_, _≤_, _<_}
+use mathlib.Core.Path.{_≡_, refl, ap, _∙_}
 use mathlib.Core.Logic.{_⊎_, inl, inr}
 use native.Mathlib.Omega.{arith}
 use Rattle.std.specs.declared.option.Option.{Option}
@@ -10,7 +10,7 @@ use Rattle.model.specs.declared.entries.Entry.{Entry}
 use Rattle.model.specs.declared.intervals.Interval.{Interval}
 use Rattle.model.specs.Sheets.{Sheet, Sound, Placement, Can-end-by, count, entry, horizon, mirror, cut}
 use Rattle.model.specs.Energy.{Is-interval, Overfull, Nowhere-overfull}
-use Rattle.model.specs.Rules.{Meaning, Proper, Lawful, Named}
+use Rattle.model.specs.Rules.{Meaning, Lawful, Named}
 use Rattle.model.specs.Elastic.{Smallest-deadline, Is-E}
 use Rattle.model.proofs.Search.{named-unique}
 use Rattle.model.proofs.Mirrors.{mirror-count, mirror-at, mirror-sound}

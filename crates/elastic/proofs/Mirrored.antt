@@ -1,16 +1,16 @@
 -- Elastic schedules of mirrors.
-use Prim.Native.Nat.{ℕ, zero, suc, _+_, _-_, _*_, _≤_, _<_, min}
-use mathlib.Core.Path.{_≡_, refl, sym, ap, _∙_}
-use mathlib.Core.Logic.{_⊎_, inl, inr}
+use Prim.Native.Nat.{ℕ, suc, _+_, _-_, _*_, _≤_, _<_}
+use mathlib.Core.Path.{_≡_, refl, sym, _∙_}
+use mathlib.Core.Logic.{inl, inr}
 use native.Mathlib.Nat.{mul-zero, mul-le-mul-right}
 use native.Mathlib.Omega.{arith}
 use Rattle.std.proofs.shelf.Tests.{cases-lt}
 use Rattle.model.specs.Total.{total}
-use Rattle.model.specs.Sheets.{Sheet, Sound, Elastic, Can-end-by, Can-begin-from, count, entry, work, horizon, mirror}
+use Rattle.model.specs.Sheets.{Sheet, Sound, Elastic, count, entry, work, horizon, mirror}
 use Rattle.model.proofs.Sums.{total-ext, total-scale, total-reverse, below}
 use Rattle.model.proofs.Mirrors.{mirror-count, mirror-at, mirror-sound, mirror-twice, mirror-placement, mirror-placement-back}
 use Rattle.model.proofs.Cuts.{cut-own}
-use Rattle.elastic.specs.Theorems.{Mirrors-placements, Mirrors-schedules, Mirrors-keep}
+use Rattle.elastic.specs.Theorems.{Mirrors-schedules, Mirrors-keep}
 use Rattle.elastic.proofs.Hall.{Filled}
 use Rattle.elastic.proofs.Exact.{to-filled, from-filled}
 
@@ -97,7 +97,11 @@ module _ (s : Sheet) (good : Sound s) where
 
 pub mirrors-keep : Mirrors-keep
 mirrors-keep s sound = (
-  record { there = mirror-placement s sound; back = mirror-placement-back s sound },
+  record {
+    there = mirror-placement s sound;
+    back = mirror-placement-back s sound;
+    twice = λ start p k l. omega (arith, p .in-time k l, sound .each k l);
+  },
   mirrors-schedules s sound,
   mirror-twice s sound,
   cut-own s,

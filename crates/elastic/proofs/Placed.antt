@@ -1,14 +1,14 @@
 -- A placement is an elastic schedule.
-use Prim.Native.Nat.{ℕ, zero, suc, _+_, _-_, _*_, _≤_, _<_, min}
+use Prim.Native.Nat.{ℕ, _+_, _-_, _*_, min}
 use mathlib.Core.Path.{_≡_, refl, sym, ap, _∙_}
-use mathlib.Core.Logic.{_⊎_, inl, inr}
-use mathlib.Core.Bool.{Bool, true, false, cond, _&&_}
+use mathlib.Core.Logic.{inl, inr}
+use mathlib.Core.Bool.{_&&_}
 use native.Mathlib.Nat.{mul-comm, mul-zero}
 use native.Mathlib.Omega.{arith}
 use lib.Dec.{leb, ltb}
 use Rattle.std.proofs.shelf.Tests.{cond-both, and-parts, and-cases, leb-true, leb-false, ltb-true, ltb-false}
 use Rattle.model.specs.declared.entries.Entry.{Entry}
-use Rattle.model.specs.Sheets.{Sheet, Sound, Elastic, Placement, count, entry, horizon, demand-at}
+use Rattle.model.specs.Sheets.{Sheet, Sound, Elastic, Placement, entry, horizon, demand-at}
 use Rattle.elastic.specs.Theorems.{Placements-are-elastic}
 use Rattle.model.proofs.Sums.{total-ext, total-scale, total-between, between}
 

@@ -1,22 +1,20 @@
 -- The smallest deadline of an entry is the end to which full intervals push it.
-use Prim.Native.Nat.{ℕ, zero, suc, _+_, _-_, _*_, _≤_, _<_, min, max}
+use Prim.Native.Nat.{ℕ, zero, suc, _+_, _-_, _*_, _≤_, _<_, max}
 use mathlib.Core.Path.{_≡_, refl, sym, ap, _∙_}
 use mathlib.Core.Logic.{_⊎_, inl, inr}
-use mathlib.Core.Bool.{cond, _&&_}
 use native.Mathlib.Nat.{mul-comm, mul-one, mul-add, mul-le-mul-left}
 use native.Mathlib.Omega.{arith}
 use native.Mathlib.Decide.{decLe, decLt}
-use lib.Dec.{leb}
-use Rattle.std.specs.declared.option.Option.the-variants.{Some, None}
+use Rattle.std.specs.declared.option.Option.the-variants.{Some}
 use Rattle.std.proofs.shelf.Tests.{cases-lt, cases-eq}
 use Rattle.std.proofs.shelf.Ways.{tells}
 use Rattle.model.specs.declared.entries.Entry.{Entry}
 use Rattle.model.specs.Total.{total}
-use Rattle.model.specs.Sheets.{Sheet, Sound, count, entry, work, horizon, end-at, cut}
-use Rattle.model.specs.Energy.{Overfull, Nowhere-overfull, work-inside, work-in, ceiling}
+use Rattle.model.specs.Sheets.{Sheet, Sound, count, entry, work, end-at, cut}
+use Rattle.model.specs.Energy.{Nowhere-overfull, work-inside, work-in, ceiling}
 use Rattle.model.specs.Elastic.{Smallest-deadline}
 use Rattle.model.proofs.Sums.{total-ext, total-le, total-add, total-pick, total-zero, is, below}
-use Rattle.model.proofs.Search.{Least, least}
+use Rattle.model.proofs.Search.{least}
 use Rattle.model.proofs.Ceilings.{ceiling-up, ceiling-near}
 use Rattle.model.proofs.Cuts.{cut-count, cut-inside, cut-there, cut-at, cut-sound, cut-own}
 use Rattle.elastic.specs.Pushes.{filled, Fullest, Pushes, Pushed-by, Pushes-give-the-smallest-deadline}
@@ -29,6 +27,29 @@ plus-one : (n k w : ℕ) (f : ℕ → ℕ) → k < n → total n (λ j. f j + w 
 plus-one n k w f l =
     let one : below k n ≡ 1 = omega arith in
     total-add n f (λ j. w * is k j) ∙ ap (λ x. total n f + x) (total-pick n k (λ j. w) ∙ (rw one (mul-one w)))
+
+-- ---- overfull intervals by what is filled
+module _ (s : Sheet) (t1 t2 : ℕ) (ordered : t1 ≤ t2) where
+  room-after : s .capacity * (t2 - t1) + s .capacity * t1 ≡ s .capacity * t2
+  room-after =
+      let e : t2 ≡ (t2 - t1) + t1 = omega arith in
+      sym (ap (λ x. s .capacity * x) e ∙ mul-add (s .capacity) (t2 - t1) t1)
+
+  -- the work inside is more than the room if and only if what is filled is more than all room up to t2
+  pub over-filled : s .capacity * (t2 - t1) < work-in s t1 t2 → s .capacity * t2 < filled s t1 t2
+  over-filled l = omega (arith, room-after)
+
+  pub filled-over : s .capacity * t2 < filled s t1 t2 → s .capacity * (t2 - t1) < work-in s t1 t2
+  filled-over l = omega (arith, room-after)
+
+pub nowhere-by-filled : (s : Sheet) →
+    ((i j : ℕ) → i < count s → j < count s → entry s i .release < entry s j .deadline →
+    filled s (entry s i .release) (entry s j .deadline) ≤ s .capacity * entry s j .deadline) → Nowhere-overfull s
+nowhere-by-filled s fits t1 t2 over =
+    let (i, li, ei) = over .opens in
+    let (j, lj, ej) = over .closes in
+    let h = rw (ei, ej) at (fits i j li lj (rw (ei, ej) (over .ordered))) in
+    omega (arith, over-filled s t1 t2 (omega (arith, over .ordered)) (over .over))
 
 -- ---- the work inside an interval of a cut
 module _ (s : Sheet) (k d : ℕ) (here : k < count s) (low : entry s k .release + entry s k .duration ≤ d) (high : d ≤ entry s k .deadline) where
@@ -110,10 +131,6 @@ module _ (s : Sheet) (sound : Sound s) (none : Nowhere-overfull s) (k : ℕ) (he
   abbrev total-at : ℕ → ℕ → ℕ
   total-at i j = filled s (entry s i .release) (entry s j .deadline) + work (entry s k)
 
-  -- the room from a release to t2, and what is filled before it
-  room : (C t1 t2 : ℕ) → t1 ≤ t2 → C * (t2 - t1) + C * t1 ≡ C * t2
-  room C t1 t2 l = let e : t2 ≡ (t2 - t1) + t1 = omega arith in sym (ap (λ x. C * x) e ∙ mul-add C (t2 - t1) t1)
-
   work-fits : (t1 t2 : ℕ) → t1 + entry s k .duration ≤ t2 → work (entry s k) ≤ s .capacity * (t2 - t1)
   work-fits t1 t2 l =
       let g = sound .each k here in
@@ -144,7 +161,7 @@ module _ (s : Sheet) (sound : Sound s) (none : Nowhere-overfull s) (k : ℕ) (he
                   | inr (j, lj, dj, same) ↦
                       let D = entry s j .deadline in
                       let f : filled s (entry s i .release) D ≡ filled s t1 D = ap (λ x. filled s x D) ri in
-                      let whole = room C t1 t2 (omega arith) in
+                      let whole = room-after s t1 t2 (omega arith) in
                       elim (cases-lt (C * D) (total-at i j)) [
                         | inl push ↦
                             let by = far i j li lj (record { release = omega arith; deadline = omega arith; over = push }) in
@@ -170,11 +187,11 @@ module _ (s : Sheet) (sound : Sound s) (none : Nowhere-overfull s) (k : ℕ) (he
         | inl l ↦
             let h = everywhere (cut s k d) (cut-sound s k d sound) clear t1 D in
             let h′ = least D before (push .deadline) (omega arith) (omega arith) in
-            absurd (omega (arith, room C t1 D (omega arith), push .over))
+            absurd (omega (arith, room-after s t1 D (omega arith), push .over))
         | inr l ↦
             let h = everywhere (cut s k d) (cut-sound s k d sound) clear t1 d in
             let h′ = least d before (push .deadline) l (omega arith) in
-            omega (arith, room C t1 d (omega arith))
+            omega (arith, room-after s t1 d (omega arith))
       ]
 
   smaller-factor : (C a b : ℕ) → C * a < C * b → a < b

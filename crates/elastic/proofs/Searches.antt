@@ -1,8 +1,9 @@
 -- What the searches find: the smallest number, and the first.
 use Prim.Native.Nat.{ℕ, zero, suc, _+_, _≤_, _<_, min}
-use mathlib.Core.Path.{_≡_, refl, sym, ap, _∙_}
-use mathlib.Core.Logic.{_⊎_, inl, inr}
+use mathlib.Core.Path.{_≡_, refl}
+use mathlib.Core.Logic.{inl, inr}
 use mathlib.Core.Bool.{Bool, true, false, cond}
+use native.Mathlib.Numerals.{add-one}
 use native.Mathlib.Omega.{arith}
 use Rattle.std.specs.declared.option.Option.{Option}
 use Rattle.std.specs.declared.option.Option.the-variants.{Some, None}
@@ -47,6 +48,16 @@ smallest-is (suc n) f test =
     let before = smallest-is n f test in
     cond-both (test (f n)) (Some (smaller (f n) (smallest n f test))) (smallest n f test) (Smallest (suc n) f test)
     (passes n f test (smallest n f test) before) (fails n f test (smallest n f test) before)
+
+-- the start and the step of a loop
+pub smallest-none : (f : ℕ → ℕ) (test : ℕ → Bool) → smallest 0 f test ≡ None
+unfolding smallest
+smallest-none f test = refl
+
+pub smallest-more : (n : ℕ) (f : ℕ → ℕ) (test : ℕ → Bool) →
+    smallest (n + 1) f test ≡ cond (test (f n)) (Some (smaller (f n) (smallest n f test))) (smallest n f test)
+unfolding smallest
+smallest-more n f test = rw add-one refl
 
 -- Of the n numbers from e on the first that passes the test, or e + n.
 pub record First (n e : ℕ) (test : ℕ → Bool) (m : ℕ) : Type 0 where

@@ -44,14 +44,15 @@ Settled-windows-are-tight = (rule : Meaning) → Is-E rule → (s : Sheet) → S
 
 -- ---- mirrors and cuts
 
--- Starts read backwards: what begins at `start` ends, seen from the other end of time, where it began.
+-- Starts read backwards: seen from the other end of time, an entry begins where it ended.
 abbrev pub backwards : Sheet → (ℕ → ℕ) → ℕ → ℕ
 backwards s start k = horizon - (start k + entry s k .duration)
 
--- The placements of the mirror are the placements read backwards.
+-- The placements of the mirror are the placements read backwards, and read backwards twice a placement is itself.
 pub record Mirrors-placements (s : Sheet) : Type 0 where
   pub there : (start : ℕ → ℕ) → Placement s start → Placement (mirror s) (backwards s start)
   pub back : (start : ℕ → ℕ) → Placement (mirror s) start → Placement s (backwards s start)
+  pub twice : (start : ℕ → ℕ) → Placement s start → (k : ℕ) → k < count s → backwards s (backwards s start) k ≡ start k
 
 -- A sheet and its mirror have elastic schedules together; who can end by t on one can begin from the horizon - t on the other.
 pub record Mirrors-schedules (s : Sheet) : Type 0 where

@@ -1,10 +1,7 @@
 -- How large the sums of a sheet within the limits can be: all fit 32 bits.
-use Prim.Native.Nat.{ℕ, zero, suc, _+_, _-_, _*_, _≤_, _<_}
-use mathlib.Core.Path.{_≡_, ap}
-use mathlib.Core.Bool.{cond, _&&_}
+use Prim.Native.Nat.{ℕ, _*_, _≤_, _<_}
 use native.Mathlib.Nat.{mul-le-mul, mul-le-mul-left}
 use native.Mathlib.Omega.{arith}
-use lib.Dec.{leb}
 use Rattle.std.proofs.shelf.Ways.{tells}
 use Rattle.model.specs.declared.entries.Entry.{Entry}
 use Rattle.model.specs.Total.{total}

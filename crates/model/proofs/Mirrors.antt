@@ -1,16 +1,12 @@
 -- Placements of sheets with the same tasks in other windows, and of mirrors.
-use Prim.Native.Nat.{ℕ, zero, suc, _+_, _-_, _*_, _≤_, _<_}
-use mathlib.Core.Path.{_≡_, refl, sym, ap, _∙_}
-use mathlib.Core.Bool.{cond, _&&_}
-use mathlib.Core.List.{List, [], _∷_, map}
+use Prim.Native.Nat.{ℕ, _+_, _-_, _≤_, _<_}
+use mathlib.Core.Path.{_≡_, refl, ap, _∙_}
 use native.Mathlib.Omega.{arith}
-use lib.Dec.{leb, ltb}
-use lib.ListN.{length, getD}
 use Rattle.std.proofs.shelf.Lists.{length-map, getD-map}
 use Rattle.std.proofs.shelf.Ways.{tells}
 use Rattle.model.specs.declared.entries.Entry.{Entry}
 use Rattle.model.specs.Total.{total}
-use Rattle.model.specs.Sheets.{Sheet, Sound-entry, Sound, Placement, No-placement, count, entry, blank, demand-at, horizon, mirror, mirror-entry, mirror-entries}
+use Rattle.model.specs.Sheets.{Sheet, Sound-entry, Sound, Placement, count, entry, blank, demand-at, horizon, mirror, mirror-entry, mirror-entries}
 use Rattle.model.proofs.Sums.{total-ext, total-le}
 use Rattle.model.proofs.Same.{same-entry, same-sheets}
 

@@ -1,9 +1,7 @@
 -- Sheets with the same capacity and the same entries are the same.
 use Prim.Native.Nat.{ℕ, _<_}
-use mathlib.Core.Path.{_≡_, refl, sym, ap, _∙_}
-use mathlib.Core.List.{List}
+use mathlib.Core.Path.{_≡_, _∙_}
 use native.Mathlib.Omega.{arith}
-use lib.ListN.{length, getD}
 use Rattle.std.proofs.shelf.Lists.{same-lists, getD-default}
 use Rattle.model.specs.declared.entries.Entry.{Entry}
 use Rattle.model.specs.Sheets.{Sheet, count, entry, blank}

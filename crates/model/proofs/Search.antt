@@ -1,9 +1,8 @@
 -- Bounded searches: the least number, and the first interval.
-use Prim.Native.Nat.{ℕ, zero, suc, _+_, _-_, _≤_, _<_}
+use Prim.Native.Nat.{ℕ, zero, suc, _≤_, _<_}
 use mathlib.Core.Path.{_≡_, refl, sym, ap}
 use mathlib.Core.Logic.{_⊎_, inl, inr}
 use native.Mathlib.Omega.{arith}
-use native.Mathlib.Decide.{decLe, decLt}
 use Rattle.std.specs.declared.option.Option.{Option}
 use Rattle.std.specs.declared.option.Option.the-variants.{Some, None}
 use Rattle.std.proofs.shelf.Tests.{cases-order, cases-lt}
@@ -75,3 +74,37 @@ named-unique P (Some i) (Some j) f g =
 named-unique P (Some i) None f g = absurd (g (i .t1) (i .t2) (f .0))
 named-unique P None (Some j) f g = absurd (f (j .t1) (j .t2) (g .0))
 named-unique P None None f g = refl
+
+-- ---- one interval after another, for a loop that keeps the first
+
+-- P, or the interval a, b.
+abbrev pub Or : (ℕ → ℕ → Type 0) → ℕ → ℕ → ℕ → ℕ → Type 0
+Or P a b t1 t2 = P t1 t2 ⊎ ((t1 ≡ a) × (t2 ≡ b))
+
+module _ (P : ℕ → ℕ → Type 0) (a b : ℕ) where
+  -- the first one found
+  pub named-alone : Named P None → Named (Or P a b) (Some (record { t1 = a; t2 = b }))
+  named-alone none = (inr (refl, refl), λ t1 t2 q. elim q [ inl p ↦ absurd (none t1 t2 p) | inr (e1, e2) ↦ inr (sym e1, omega arith) ])
+
+  -- one that comes before what was found
+  pub named-before : (i : Interval) → Named P (Some i) → (a < i .t1) ⊎ ((a ≡ i .t1) × (b ≤ i .t2)) → Named (Or P a b) (Some (record { t1 = a; t2 = b }))
+  named-before i named sooner = (
+    inr (refl, refl),
+    λ t1 t2 q. elim q [
+      | inl p ↦ after t1 t2 (named .1 t1 t2 p) sooner
+      | inr (e1, e2) ↦ inr (sym e1, omega arith)
+    ],
+  )
+    where
+      after : (t1 t2 : ℕ) → No-later i t1 t2 → (a < i .t1) ⊎ ((a ≡ i .t1) × (b ≤ i .t2)) → No-later (record { t1 = a; t2 = b }) t1 t2
+      after t1 t2 (inl l) (inl m) = inl (omega arith)
+      after t1 t2 (inl l) (inr m) = inl (omega arith)
+      after t1 t2 (inr l) (inl m) = inl (omega arith)
+      after t1 t2 (inr l) (inr m) = inr (omega arith, omega arith)
+
+  -- one that comes no sooner
+  pub named-after : (i : Interval) → Named P (Some i) → No-later i a b → Named (Or P a b) (Some i)
+  named-after i named later = (
+    inl (named .0),
+    λ t1 t2 q. elim q [ inl p ↦ named .1 t1 t2 p | inr (e1, e2) ↦ rw (e1, e2) later ],
+  )
