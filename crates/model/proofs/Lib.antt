@@ -7,3 +7,4 @@ pub mod Cuts
 pub mod Ceilings
 pub mod Bounds
 pub mod Others
+pub mod At
