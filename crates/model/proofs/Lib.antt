@@ -8,3 +8,4 @@ pub mod Ceilings
 pub mod Bounds
 pub mod Others
 pub mod At
+pub mod Filling
