@@ -1,0 +1,2 @@
+-- In the order of reading: numbers, then records.
+pub mod Numbers
