@@ -1,3 +1,6 @@
 // Reads the numbers and records of a campaign file.
 pub mod faults;
-pub mod numbers;
+mod numbers;
+pub mod records;
+pub mod reader;
+mod reading;
