@@ -20,11 +20,16 @@ abbrev pub said-by : Record → Said
 said-by (Note text at) = note (now text) at
 said-by (Test fields label at) = test fields (now label) at
 
--- A number says itself.
-abbrev pub itself : ℕ → ℕ
-itself n = n
+-- What is no part of the input says itself.
+abbrev pub itself : {A : Type 0} → A → A
+itself a = a
 
--- A reader that stood at p answered r and stands at q. It answered with what stands at p and went past it, or with the fault there and stayed.
+-- A reader that stood at p answered r and, if it met no fault, stands at q: it answered with what stands at p and went past it, or with the fault there.
+abbrev pub Takes : {A B : Type 0} → (A → B) → (Spot → Reading B) → Spot → Result A Misread → Spot → Type 0
+Takes says here p (Ok a) q = here p ≡ Ok (says a, q)
+Takes says here p (Err e) q = here p ≡ Err e
+
+-- A reader that stood at p answered r and stands at q: it answered with what stands at p and went past it, or with the fault there and stayed.
 abbrev pub Reads : {A B : Type 0} → (A → B) → (Spot → Reading B) → Spot → Result A Misread → Spot → Type 0
 Reads says here p (Ok a) q = here p ≡ Ok (says a, q)
 Reads says here p (Err e) q = (here p ≡ Err e) × (q ≡ p)

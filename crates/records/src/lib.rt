@@ -3,4 +3,5 @@ pub mod faults;
 mod numbers;
 pub mod records;
 pub mod reader;
+mod taking;
 mod reading;

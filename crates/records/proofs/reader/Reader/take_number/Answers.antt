@@ -1,12 +1,12 @@
 use Prim.Native.Nat.{ℕ, _+_}
-use mathlib.Core.Path.{_≡_, refl, sym, ap, _∙_}
+use mathlib.Core.Path.{_≡_, sym, ap, _∙_}
 use mathlib.Core.List.{List}
 use Rattle.std.proofs.shelf.Lists.{take-rest}
 use Rattle.std.specs.declared.result.Result.the-variants.{Ok}
 use Rattle.records.specs.Records.{Reading, number-here, numbered}
 use Rattle.records.specs.Reading.{spot}
 use Rattle.records.proofs.Groups.{number-small}
-use Rattle.records.proofs.reader.Reader.number.Needs as need
+use Rattle.records.proofs.reader.Reader.take_number.Needs as need
 
 pub returns-in-Ok : need.returns-in-Ok
 unfolding number-here
@@ -22,4 +22,4 @@ returns-in-Ok c =
 
 pub returns-in-Err : need.returns-in-Err
 unfolding number-here
-returns-in-Err c = record { exact = (ap (numbered (spot (c .args .self .now))) (sym (c .in-Err .ensures tt .exact)), refl); small = tt }
+returns-in-Err c = record { exact = ap (numbered (spot (c .args .self .now))) (sym (c .in-Err .ensures tt .exact)); small = tt }
