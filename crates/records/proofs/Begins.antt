@@ -29,8 +29,8 @@ at-test d (Err e) = refl
 
 at-kind : (p q : Spot) (a b : Bool) →
     begun (p .place)
-      (cond a (text-here q then λ text r. Ok (note text (p .place), r))
-        (cond b (fields-here q then λ fields r. text-here r then λ label s. Ok (test fields label (p .place), s)) (fault-at Kind p)))
+    (cond a (text-here q then λ text r. Ok (note text (p .place), r))
+    (cond b (fields-here q then λ fields r. text-here r then λ label s. Ok (test fields label (p .place), s)) (fault-at Kind p)))
     ≡ p .place
 at-kind p q true b = at-note (p .place) (text-here q)
 at-kind p q false true = at-test (p .place) (fields-here q)

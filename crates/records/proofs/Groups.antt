@@ -34,11 +34,12 @@ announcing-more [] i a h l = absurd (omega arith)
 announcing-more (b ∷ s) zero a h l = omega (arith, announcing-next b s l)
 announcing-more (b ∷ s) (suc i) a h l =
     elim (cases-lt b 128) [
-      inl p ↦ absurd (omega (arith, announcing-last b s p))
-    | inr p ↦
-        let e = announcing-next b s p in
-        let r : i + 1 ≤ announcing s = announcing-more s i (omega arith) (omega arith) l in
-        omega arith ]
+      | inl p ↦ absurd (omega (arith, announcing-last b s p))
+      | inr p ↦
+          let e = announcing-next b s p in
+          let r : i + 1 ≤ announcing s = announcing-more s i (omega arith) (omega arith) l in
+          omega arith
+    ]
 
 -- where all before it announce another, and a byte does not, there are no more
 pub announcing-here : (s : List ℕ) (i : ℕ) → i ≤ announcing s → i < length s → getD s i 0 < 128 → announcing s ≡ i
@@ -46,11 +47,12 @@ announcing-here [] i a h l = absurd (omega arith)
 announcing-here (b ∷ s) zero a h l = announcing-last b s l
 announcing-here (b ∷ s) (suc i) a h l =
     elim (cases-lt b 128) [
-      inl p ↦ absurd (omega (arith, announcing-last b s p))
-    | inr p ↦
-        let e = announcing-next b s p in
-        let r : announcing s ≡ i = announcing-here s i (omega arith) (omega arith) l in
-        omega arith ]
+      | inl p ↦ absurd (omega (arith, announcing-last b s p))
+      | inr p ↦
+          let e = announcing-next b s p in
+          let r : announcing s ≡ i = announcing-here s i (omega arith) (omega arith) l in
+          omega arith
+    ]
 
 value-push : (xs : List ℕ) (b : ℕ) → value-of (xs ++ b ∷ []) ≡ value-of xs + (b % 128) * 128 ^ length xs
 unfolding value-of
@@ -102,16 +104,18 @@ number-whole n s h e = cond-false _ _ _ (lt-leb n (announcing s) h) ∙ cond-fal
 pub number-small : (n v k : ℕ) (s : List ℕ) → number-at n s ≡ Ok (v, k) → (1 ≤ k) × (k ≤ length s) × (k ≤ n) × (v < 128 ^ n)
 number-small n v k s e =
     elim (cases-lt (announcing s) n) [
-      inr p ↦ let f = number-long n s p in let z : _≡_ {A = ℕ} 0 1 = cc in absurd (omega arith)
-    | inl p ↦
-        elim (cases-lt (announcing s) (length s)) [
-          inr q ↦ let f = number-ends n s p q in let z : _≡_ {A = ℕ} 0 1 = cc in absurd (omega arith)
-        | inl q ↦
-            let f = number-whole n s p q in
-            let w = take (announcing s + 1) s in
-            let g : _≡_ {A = ℕ × ℕ} (v, k) (value-of w, announcing s + 1) = cc in
-            let x : k ≡ announcing s + 1 = ap (λ p. p .1) g in
-            let y : v ≡ value-of w = ap (λ p. p .0) g in
-            let l : length w ≤ n = omega (arith, length-take-le (announcing s + 1) s (omega arith)) in
-            let b : 128 ^ length w ≤ 128 ^ n = pow-le-pow-right {n = 128} (omega arith) l in
-            (omega arith, omega arith, omega arith, omega (arith, value-below w)) ] ]
+      | inr p ↦ let f = number-long n s p in let z : _≡_ {A = ℕ} 0 1 = cc in absurd (omega arith)
+      | inl p ↦
+          elim (cases-lt (announcing s) (length s)) [
+            | inr q ↦ let f = number-ends n s p q in let z : _≡_ {A = ℕ} 0 1 = cc in absurd (omega arith)
+            | inl q ↦
+                let f = number-whole n s p q in
+                let w = take (announcing s + 1) s in
+                let g : _≡_ {A = ℕ × ℕ} (v, k) (value-of w, announcing s + 1) = cc in
+                let x : k ≡ announcing s + 1 = ap (λ p. p .1) g in
+                let y : v ≡ value-of w = ap (λ p. p .0) g in
+                let l : length w ≤ n = omega (arith, length-take-le (announcing s + 1) s (omega arith)) in
+                let b : 128 ^ length w ≤ 128 ^ n = pow-le-pow-right {n = 128} (omega arith) l in
+                (omega arith, omega arith, omega arith, omega (arith, value-below w))
+          ]
+    ]

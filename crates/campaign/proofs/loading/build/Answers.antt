@@ -17,7 +17,7 @@ returns-in-Err-build c =
 pub returns-then-count-gt-RECORDS-MAX : need.returns-then-count-gt-RECORDS-MAX
 returns-then-count-gt-RECORDS-MAX c =
     rw (c .place-byte-2 .ensures)
-      (too-many _ _ _ _ _ (c .in-Ok .ensures tt .exact) (c .in-Ok-build .ensures tt) (c .in-Ok-number .ensures tt .exact) (c .if-count-gt-RECORDS-MAX .taken))
+    (too-many _ _ _ _ _ (c .in-Ok .ensures tt .exact) (c .in-Ok-build .ensures tt) (c .in-Ok-number .ensures tt .exact) (c .if-count-gt-RECORDS-MAX .taken))
 
 pub returns-else-count-gt-RECORDS-MAX : need.returns-else-count-gt-RECORDS-MAX
 returns-else-count-gt-RECORDS-MAX c =

@@ -17,17 +17,17 @@ returns-in-Break-enter-records c =
     let r = c .from-residual-in-Break-enter-records in
     let p = err-from-errBy (r .result) (r .ensures .1) in
     rw (p .1, p .2)
-      (body _ _ _ _ (rw (c .new-reader .ensures) at (c .in-Continue-count .ensures tt)) (c .in-Break-enter-records .ensures tt))
+    (body _ _ _ _ (rw (c .new-reader .ensures) at (c .in-Continue-count .ensures tt)) (c .in-Break-enter-records .ensures tt))
 
 pub returns-then-at-end : need.returns-then-at-end
 returns-then-at-end c =
     let n = length (c .enter-records .last .reader .rest .now) in
     whole _ _ _ _ _ (rw (c .new-reader .ensures) at (c .in-Continue-count .ensures tt)) (c .in-Continue-enter-records .ensures tt)
-      (eqb-true n 0 (sym (c .if-at-end .ensures tt)))
+    (eqb-true n 0 (sym (c .if-at-end .ensures tt)))
 
 pub returns-else-at-end : need.returns-else-at-end
 returns-else-at-end c =
     let n = length (c .enter-records .last .reader .rest .now) in
     let left : n ≡ 0 → ⊥ = eqb-false n 0 (sym (c .if-at-end .ensures tt)) in
     rw (c .place .ensures)
-      (left-over _ _ _ _ _ (rw (c .new-reader .ensures) at (c .in-Continue-count .ensures tt)) (c .in-Continue-enter-records .ensures tt) (omega arith))
+    (left-over _ _ _ _ _ (rw (c .new-reader .ensures) at (c .in-Continue-count .ensures tt)) (c .in-Continue-enter-records .ensures tt) (omega arith))

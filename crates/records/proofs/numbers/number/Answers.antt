@@ -42,7 +42,7 @@ returns-then-byte-lt128 c =
     let a : announcing s ≡ i = announcing-here s i (c .loop-i .inv .0) h (c .if-byte-lt128 .taken) in
     let w : c .loop-i .weight ≡ 128 ^ i = c .loop-i .inv .2 in
     let v : value-of (take (i + 1) s) ≡ c .loop-i .value + getD s i 0 % 128 * c .loop-i .weight =
-      value-more s i h ∙ (rw (c .loop-i .inv .1, w) refl) in
+    value-more s i h ∙ (rw (c .loop-i .inv .1, w) refl) in
     let e : number-at (c .args .groups) s ≡ Ok (value-of (take (announcing s + 1) s), announcing s + 1) = number-whole (c .args .groups) s (omega arith) (omega arith) in
     record { exact = cc }
 
@@ -58,8 +58,9 @@ loop-i-again c =
     let h : i < length s = omega (arith, announcing-le s) in
     let w : c .loop-i .weight ≡ 128 ^ i = c .loop-i .inv .2 in
     let b = group-below (c .loop-i .value) (getD s i 0) (c .loop-i .weight) (c .loop-i .inv .3) in
-    let p : 128 ^ (i + 1) ≡ 128 * 128 ^ i = ap (λ k. 128 ^ k) (add-one i) ∙ pow-succ' 128 i in
-    ( announcing-more s i (c .loop-i .inv .0) h (c .if-byte-lt128 .left)
-    , rw (c .loop-i .inv .1, w) (sym (value-more s i h))
-    , omega arith
-    , omega arith )
+    let p : 128 ^ (i + 1) ≡ 128 * 128 ^ i = ap (λ k. 128 ^ k) (add-one i) ∙ pow-succ' 128 i in (
+      announcing-more s i (c .loop-i .inv .0) h (c .if-byte-lt128 .left),
+      rw (c .loop-i .inv .1, w) (sym (value-more s i h)),
+      omega arith,
+      omega arith,
+    )

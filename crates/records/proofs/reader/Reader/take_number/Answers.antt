@@ -18,7 +18,8 @@ returns-in-Ok c =
     let past-it : List ℕ → Reading ℕ = λ rest. Ok (c .in-Ok .value, record { place = p .place + k; rest = rest }) in
     record {
       exact = ap (numbered (spot p)) (sym e) ∙ ap past-it (sym (take-rest s k));
-      small = number-small 3 (c .in-Ok .value) k s (sym e) .3 }
+      small = number-small 3 (c .in-Ok .value) k s (sym e) .3;
+    }
 
 pub returns-in-Err : need.returns-in-Err
 unfolding number-here

@@ -23,8 +23,8 @@ pub returns-in-Break-take-text-2 : need.returns-in-Break-take-text-2
 returns-in-Break-take-text-2 c =
     let p = err-from-errBy (c .from-residual-in-Break-take-text-2 .result) (c .from-residual-in-Break-take-text-2 .ensures .1) in
     rw (p .1, p .2)
-      (label-unread _ _ _ _ _ _
-        (c .in-Continue-take-number .ensures tt .exact) (c .in-1 .is) (c .in-Continue-take-fields .ensures tt) (c .in-Break-take-text-2 .ensures tt))
+    (label-unread _ _ _ _ _ _
+    (c .in-Continue-take-number .ensures tt .exact) (c .in-1 .is) (c .in-Continue-take-fields .ensures tt) (c .in-Break-take-text-2 .ensures tt))
 
 pub returns-in-rest : need.returns-in-rest
 returns-in-rest c = record-kind _ _ _ (c .in-Continue-take-number .ensures tt .exact) (λ z. omega arith) (λ z. omega arith)
@@ -36,4 +36,4 @@ returns-in-Continue-take-text c =
 pub returns-in-Continue-take-text-2 : need.returns-in-Continue-take-text-2
 returns-in-Continue-take-text-2 c =
     test-whole _ _ _ _ _ _ _
-      (c .in-Continue-take-number .ensures tt .exact) (c .in-1 .is) (c .in-Continue-take-fields .ensures tt) (c .in-Continue-take-text-2 .ensures tt)
+    (c .in-Continue-take-number .ensures tt .exact) (c .in-1 .is) (c .in-Continue-take-fields .ensures tt) (c .in-Continue-take-text-2 .ensures tt)

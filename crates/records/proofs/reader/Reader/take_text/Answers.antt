@@ -30,5 +30,5 @@ returns c =
     let whole : List ℕ → List ℕ → Reading (List ℕ) = λ text rest. Ok (text, record { place = q .place + n; rest = rest }) in
     let m : n - 0 ≡ n = omega arith in
     text-whole (spot (c .args .self .now)) (spot q) n (c .in-Continue-length .ensures tt .exact) (omega arith) (omega arith)
-      ∙ ap (λ k. whole (take k s) (drop n s)) (sym m)
-      ∙ ap (whole (take (n - 0) s)) (sym (take-rest s n))
+    ∙ ap (λ k. whole (take k s) (drop n s)) (sym m)
+    ∙ ap (whole (take (n - 0) s)) (sym (take-rest s n))
