@@ -1,0 +1,5 @@
+// Loads a campaign file into a board.
+pub mod faults;
+mod records;
+mod loading;
+pub use loading::load;

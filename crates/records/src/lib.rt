@@ -1,0 +1,7 @@
+// Reads the numbers and records of a campaign file.
+pub mod faults;
+mod numbers;
+pub mod records;
+pub mod reader;
+mod taking;
+mod reading;
