@@ -1,7 +1,5 @@
 // The calls on a board that are obeyed or refused.
 ghost use mathlib.Core.Path.{_≡_};
-ghost use lib.ListN.{length, getD};
-ghost use Prim.Native.Nat.{ℕ, _<_, _≤_};
 ghost use Rattle.std.specs.Options.{Cases as BySome};
 ghost use Rattle.std.specs.Orderings.{When};
 ghost use Rattle.std.specs.Results.{Cases};
@@ -37,19 +35,6 @@ impl Board {
     {
         let rows = Vec::with_capacity(heap, ROWS_MAX)?;
         Ok(Board { capacity: 1, table: Table { rows } })
-    }
-
-    pub fn capacity(&self) -> u16
-        ensures { λ r. ⌜ r ≡ bookings (now (self .entry)) .capacity ⌝ }
-    {
-        self.capacity
-    }
-
-    // The rows in order of entry.
-    pub fn rows(&self) -> &[Row]
-        ensures { λ r. ⌜ now r ≡ bookings (now (self .entry)) .rows ⌝ }
-    {
-        self.table.rows.as_slice()
     }
 
     // Makes this a board of the given capacity without rows.
@@ -127,7 +112,7 @@ impl Board {
             None => Err(Refusal::Unknown),
             Some(i) => {
                 self.table.remove(i);
-                self.table.reset();
+                self.table.reset(); // what the row held down may widen again
                 Ok(())
             }
         }

@@ -5,6 +5,7 @@ pub mod answers;
 pub mod places;
 pub mod table;
 pub mod boards;
+pub mod questions;
 pub mod calls;
 pub mod saved;
 pub mod restoring;

@@ -32,8 +32,7 @@ impl Row {
     pub fn rebook(&mut self, window: Window)
         ensures { λ _. ⌜ now (self .exit) ≡ rebooked window (now (self .entry)) ⌝ }
     {
-        self.entered = window;
-        self.present = window;
+        *self = Row { entered: window, present: window, ..*self };
     }
 
     // Gives the row a new present window.

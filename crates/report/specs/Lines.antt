@@ -10,6 +10,8 @@ use Rattle.board.specs.declared.answers.Verdict.{Verdict}
 use Rattle.board.specs.declared.answers.Verdict.the-variants.{Settled, Overfull, Squeezed}
 use Rattle.board.specs.declared.answers.Swept.{Swept}
 use Rattle.board.specs.Calls.{Bookings}
+use Rattle.campaign.specs.declared.faults.Fault.{Fault}
+use Rattle.campaign.specs.Faults.{cause-number, cause-layer}
 
 -- A number in base ten, and a space or the end of the line.
 abbrev pub before-space : ℕ → List ℕ
@@ -51,3 +53,9 @@ verdict-line s = verdict-words (s .verdict) ++ before-end (s .rounds)
 -- The report of a board and a sweep's answer.
 abbrev pub report-lines : Bookings → Swept → List ℕ
 report-lines b s = board-lines b ++ verdict-line s
+
+-- The line of a fault: its number, its layer, the record and the byte.
+abbrev pub fault-line : Fault → List ℕ
+fault-line f =
+    codes "REFUSED "
+    ++ (before-space (cause-number (f .cause)) ++ (before-space (cause-layer (f .cause)) ++ (before-space (f .«record») ++ before-end (f .byte))))

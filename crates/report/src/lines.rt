@@ -6,11 +6,12 @@ ghost use lib.ListN.{length};
 ghost use Rattle.std.specs.Written.{decimal};
 ghost use Rattle.board.specs.Held.{bookings};
 ghost use Rattle.report.specs.Shown.{shown};
-ghost use Rattle.report.specs.Lines.{head-line, row-line, row-lines, board-lines, verdict-words, verdict-line};
+ghost use Rattle.report.specs.Lines.{head-line, row-line, row-lines, board-lines, verdict-words, verdict-line, fault-line};
 use crate::texts::Text;
 use board::answers::Swept;
 use board::answers::Verdict;
 use board::boards::Board;
+use campaign::faults::Fault;
 use model::rows::Row;
 
 impl Text {
@@ -100,5 +101,17 @@ impl Text {
     {
         self.words(swept.verdict);
         self.figure(swept.rounds as u64, b'\n');
+    }
+
+    // The line of a fault.
+    pub(crate) fn fault(&mut self, fault: &Fault)
+        requires { ⌜ now self .len + 92 ≤ 8192 ⌝ }
+        ensures text { λ _. ⌜ shown (now (self .exit)) ≡ shown (now (self .entry)) ++ fault-line (now (fault .entry)) ⌝ }
+    {
+        self.word(b"REFUSED ");
+        self.figure(fault.cause.number() as u64, b' ');
+        self.figure(fault.cause.layer() as u64, b' ');
+        self.figure(fault.record as u64, b' ');
+        self.figure(fault.byte as u64, b'\n');
     }
 }

@@ -1,0 +1,32 @@
+// Reads a campaign file from standard input, loads it, and prints its board or what is wrong with it.
+use board::boards::Board;
+use campaign::load;
+use report::reports::listing;
+use report::reports::refusal;
+use std::error::AnyError;
+use std::io::Read;
+use std::io::Write;
+
+// One byte more than the longest file of as many records as a file may have.
+const INPUT_MAX: u64 = 28679;
+
+fn main(rt: LibcRuntime) -> Result<(), AnyError> {
+    let heap = rt.alloc();
+    let mut input = Vec::new(heap);
+    rt.stdin().take(INPUT_MAX).read_to_end(&mut input)?;
+    let mut board = Board::new(heap)?;
+    let mut out = [0u8; 8192];
+    let written = match load(&mut board, &input) {
+        Ok(()) => listing(&board, &mut out),
+        Err(fault) => refusal(&fault, &mut out),
+    };
+    match written {
+        Ok(n) => {
+            if n <= out.len() {
+                rt.stdout().write_all(&out[0..n])?;
+            }
+            Ok(())
+        }
+        Err(_) => Err("the report is longer than its buffer".into()),
+    }
+}
