@@ -1,1 +1,3 @@
 mod Refused
+mod Single
+mod Determined

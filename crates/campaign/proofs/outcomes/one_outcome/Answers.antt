@@ -1,0 +1,5 @@
+use Rattle.campaign.proofs.Determined.{one-outcome}
+use Rattle.campaign.proofs.outcomes.one_outcome.Needs as need
+
+pub returns : need.returns
+returns c = one-outcome

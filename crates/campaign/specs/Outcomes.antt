@@ -1,0 +1,13 @@
+-- Loading has one outcome.
+use mathlib.Core.Path.{_≡_}
+use mathlib.Core.List.{List}
+use Prim.Native.Nat.{ℕ}
+use Rattle.std.specs.declared.result.Result.{Result}
+use Rattle.board.specs.Calls.{Bookings}
+use Rattle.campaign.specs.declared.faults.Fault.{Fault}
+use Rattle.campaign.specs.Loads.{Loads}
+
+-- Two ways to load a file into a board answer the same and leave the same.
+abbrev pub One-outcome : Type 0
+One-outcome =
+    (file : List ℕ) (before a b : Bookings) (r s : Result (Unit {0}) Fault) → Loads file before r a → Loads file before s b → (r ≡ s) × (a ≡ b)
