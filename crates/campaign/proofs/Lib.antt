@@ -1,3 +1,4 @@
 mod Refused
 mod Single
 mod Determined
+mod Decided
