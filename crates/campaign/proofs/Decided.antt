@@ -60,10 +60,10 @@ stands-below x rows (suc n) l =
             | inl s ↦ inl (n, s)
             | inr here ↦
                 inr (λ k h s.
-                  elim (cases-lt k n) [
-                    | inl b ↦ before k b s
-                    | inr b ↦ let e : k ≡ n = omega arith in here (rw e at s)
-                  ])
+                elim (cases-lt k n) [
+                  | inl b ↦ before k b s
+                  | inr b ↦ let e : k ≡ n = omega arith in here (rw e at s)
+                ])
           ]
     ]
 
