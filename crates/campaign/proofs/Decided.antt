@@ -13,7 +13,7 @@ use Rattle.model.specs.declared.rows.Row.{Row}
 use Rattle.board.specs.declared.bookings.Test.{Test}
 use Rattle.board.specs.declared.refusals.Refusal.{Refusal}
 use Rattle.board.specs.declared.refusals.Refusal.the-variants.{Capacity, Profile, Bearer, Duration, Demand, Window, Taken, Full}
-use Rattle.board.specs.Limits.{row-at}
+use Rattle.model.specs.Limits.{row-at}
 use Rattle.board.specs.Calls.{Bookings, Builds, makes, too-small, too-large, built, Wrong-pair, profile, bearer-low, bearer-high, Stands-at, Free, Misfit, late, tight, Wrong, pair, instant, long, idle, greedy, window, taken, full, Nothing, First, Enters, adds, refuses}
 use Rattle.records.specs.declared.faults.Misread.{Misread}
 use Rattle.records.specs.Records.{Spot, Reading, Said, start, note, test, number-here, record-here}
