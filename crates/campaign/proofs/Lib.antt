@@ -1,1 +1,4 @@
 mod Refused
+mod Single
+mod Determined
+mod Decided

@@ -1,3 +1,4 @@
--- In the order of reading: the causes of faults by number and layer, and what load does.
+-- In the order of reading: the causes of faults by number and layer, what load does, and that it has one outcome.
 pub mod Faults
 pub mod Loads
+pub mod Outcomes

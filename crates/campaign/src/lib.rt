@@ -2,4 +2,5 @@
 pub mod faults;
 mod records;
 mod loading;
+pub mod outcomes;
 pub use loading::load;

@@ -1,4 +1,5 @@
--- In the order of reading: numbers, records, and what a call of a reader does.
+-- In the order of reading: numbers, some of them worked out, records, and what a call of a reader does.
 pub mod Numbers
+pub mod Figures
 pub mod Records
 pub mod Reading

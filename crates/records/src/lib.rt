@@ -3,5 +3,6 @@ pub mod faults;
 mod numbers;
 pub mod records;
 pub mod reader;
+pub mod figures;
 mod taking;
 mod reading;
