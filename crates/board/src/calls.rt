@@ -112,7 +112,7 @@ impl Board {
             None => Err(Refusal::Unknown),
             Some(i) => {
                 self.table.remove(i);
-                self.table.reset(); // what the row held down may widen again
+                self.table.reset();
                 Ok(())
             }
         }
