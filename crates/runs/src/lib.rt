@@ -1,0 +1,1 @@
+// What holds after every run of calls on a board.
