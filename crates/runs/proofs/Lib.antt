@@ -1,3 +1,6 @@
 pub mod Boards
 pub mod Figures
 pub mod Narrowing
+pub mod Spare
+pub mod Applied
+pub mod Once

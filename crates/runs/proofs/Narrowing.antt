@@ -30,13 +30,13 @@ writes-nothing w b c x same =
     (λ k l. let l′ : k < length (b .rows) = omega (arith, x .places) in
     x .each k l′ ∙ ap (λ (v : Window). narrowed v (row-at (b .rows) k)) (same k l′))
 
-module _ (rule : Meaning) (b : Bookings) (sound : Sound-bookings b) where
-  -- The window of a row, no wider than the present one, with room for its duration.
-  pub record Inside (row : Row) (w : Window) : Type 0 where
-    pub later : row .present .release ≤ w .release
-    pub sooner : w .deadline ≤ row .present .deadline
-    pub room : w .release + row .duration ≤ w .deadline
+-- A window for a row, no wider than the present one, with room for its duration.
+pub record Inside (row : Row) (w : Window) : Type 0 where
+  pub later : row .present .release ≤ w .release
+  pub sooner : w .deadline ≤ row .present .deadline
+  pub room : w .release + row .duration ≤ w .deadline
 
+module _ (rule : Meaning) (b : Bookings) (sound : Sound-bookings b) where
   pub insides : None-short rule b → (k : ℕ) → k < length (b .rows) → Inside (row-at (b .rows) k) (figures rule (at-present b) k)
   insides wide k l =
       let l′ : k < count (at-present b) = rw (present-count b) l in
