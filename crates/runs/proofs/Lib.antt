@@ -4,3 +4,5 @@ pub mod Narrowing
 pub mod Spare
 pub mod Applied
 pub mod Once
+pub mod Rounds
+pub mod Swept
