@@ -6,3 +6,5 @@ pub mod Applied
 pub mod Once
 pub mod Rounds
 pub mod Swept
+pub mod Stepping
+pub mod Judged
