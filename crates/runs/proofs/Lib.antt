@@ -8,3 +8,6 @@ pub mod Rounds
 pub mod Swept
 pub mod Stepping
 pub mod Judged
+pub mod Letters
+pub mod Running
+pub mod OneRun
