@@ -23,7 +23,7 @@ use Rattle.runs.specs.Applying.{as-entered, at-present, figures, number, Short
 use Rattle.runs.specs.Sweeping.{application, Goes-on, after-narrowed, after-quiet}
 use Rattle.runs.specs.Promise.{Is-overfull, told, Exact-E, Exact-S}
 use Rattle.runs.proofs.Boards.{present-count, present-at, present-sound}
-use Rattle.runs.proofs.Figures.{figures-hold}
+use Rattle.runs.proofs.RuleFigures.{figures-hold}
 use Rattle.runs.proofs.Narrowing.{narrowed-sound, narrowed-entered, narrowed-placed}
 
 -- What a call keeps: the limits, the windows as entered, and the placements of the present windows.

@@ -1,5 +1,5 @@
 pub mod Boards
-pub mod Figures
+pub mod RuleFigures
 pub mod Narrowing
 pub mod Spare
 pub mod Applied
@@ -11,3 +11,4 @@ pub mod Judged
 pub mod Letters
 pub mod Running
 pub mod OneRun
+pub mod Marked

@@ -15,7 +15,7 @@ use Rattle.model.proofs.Same.{same-sheets}
 use Rattle.board.specs.Calls.{Bookings, Sound-bookings}
 use Rattle.runs.specs.Applying.{in-window, as-entered, at-present, figures, Short, None-short, Same-window, Writes}
 use Rattle.runs.proofs.Boards.{entered-count, entered-at, present-count, present-at, present-sound, same-boards}
-use Rattle.runs.proofs.Figures.{figures-hold, figures-inside}
+use Rattle.runs.proofs.RuleFigures.{figures-hold, figures-inside}
 
 -- what is written is one board only
 pub writes-unique : (w : ℕ → Window) (b c d : Bookings) → Writes w b c → Writes w b d → c ≡ d

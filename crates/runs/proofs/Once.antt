@@ -20,7 +20,7 @@ use Rattle.board.specs.declared.answers.Effect.{Effect}
 use Rattle.board.specs.declared.answers.Effect.the-variants.{Overfull, Squeezed, Narrowed, Quiet}
 use Rattle.board.specs.Calls.{Bookings}
 use Rattle.runs.specs.Applying.{at-present, figures, Short, Same-window, Writes, Applies, finds, squeezes, narrows, rests}
-use Rattle.runs.proofs.Figures.{some-or-none}
+use Rattle.runs.proofs.RuleFigures.{some-or-none}
 use Rattle.runs.proofs.Narrowing.{writes-unique}
 use Rattle.runs.proofs.Spare.{same-window?}
 
