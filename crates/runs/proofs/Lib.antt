@@ -1,0 +1,14 @@
+pub mod Boards
+pub mod RuleFigures
+pub mod Narrowing
+pub mod Spare
+pub mod Applied
+pub mod Once
+pub mod Rounds
+pub mod Swept
+pub mod Stepping
+pub mod Judged
+pub mod Letters
+pub mod Running
+pub mod OneRun
+pub mod Marked
