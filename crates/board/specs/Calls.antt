@@ -6,6 +6,7 @@ use lib.ListN.{length, set}
 use Rattle.std.specs.Holes.{removed}
 use Rattle.std.specs.declared.result.Result.{Result}
 use Rattle.std.specs.declared.result.Result.the-variants.{Ok, Err}
+use Rattle.model.specs.declared.windows.Window.{Window}
 use Rattle.model.specs.declared.rows.Pair.{Pair}
 use Rattle.model.specs.declared.rows.Row.{Row}
 use Rattle.model.specs.Sheets.{horizon, capacity-max, rows-max}
@@ -14,7 +15,7 @@ use Rattle.board.specs.declared.refusals.Refusal.the-variants as refusal
 use Rattle.board.specs.declared.bookings.Test.{Test}
 use Rattle.board.specs.Refusals.{number-of}
 use Rattle.model.specs.Limits.{profile-max, bearer-min, bearer-max, row-at, Sound-rows}
-use Rattle.model.specs.Changes.{reset, rebooked}
+use Rattle.model.specs.Changes.{reset, rebooked, narrowed}
 
 -- What a board holds: its capacity, and its rows in order of entry.
 pub record Bookings : Type 0 where
@@ -133,3 +134,20 @@ pub data Rebooks (b : Bookings) (pair : Pair) (release deadline : ℕ) : Answer 
   unknown : Free pair (b .rows) → Rebooks b pair release deadline (Err refusal.Unknown) b
   unfit : (k : ℕ) → Stands-at pair (b .rows) k → Misfit (row-at (b .rows) k .duration) release deadline →
       Rebooks b pair release deadline (Err refusal.Window) b
+
+-- ---- narrowing one row
+
+-- A window lies inside the entered window of a row, and has room for its duration.
+pub record Fits-in (row : Row) (w : Window) : Type 0 where
+  pub later : row .entered .release ≤ w .release
+  pub sooner : w .deadline ≤ row .entered .deadline
+  pub room : w .release + row .duration ≤ w .deadline
+
+-- There is a row at place k, and the window fits it.
+pub record Fits-at (b : Bookings) (k : ℕ) (w : Window) : Type 0 where
+  pub inside : k < length (b .rows)
+  pub fits : Fits-in (row-at (b .rows) k) w
+
+-- The board with the present window of the row at place k replaced, and all else the same.
+abbrev pub narrowed-at : Bookings → ℕ → Window → Bookings
+narrowed-at b k w = record { capacity = b .capacity; rows = set (b .rows) k (narrowed w (row-at (b .rows) k)) }

@@ -7,5 +7,6 @@ pub mod table;
 pub mod boards;
 pub mod questions;
 pub mod calls;
+pub mod narrowing;
 pub mod saved;
 pub mod restoring;

@@ -6,7 +6,7 @@ ghost use lib.ListN.{length, set};
 ghost use Rattle.std.specs.Holes.{removed};
 ghost use Rattle.std.specs.Of.Vec.{vec-items, vec-len, vec-cap};
 ghost use Rattle.model.specs.Limits.{row-at};
-ghost use Rattle.model.specs.Changes.{reset, rebooked};
+ghost use Rattle.model.specs.Changes.{reset, rebooked, narrowed};
 use model::rows::Row;
 use model::windows::Window;
 
@@ -55,6 +55,17 @@ impl Table {
     {
         let row = &mut self.rows[i];
         row.rebook(window);
+    }
+
+    // Gives the row at place i a new present window.
+    pub(crate) fn narrow(&mut self, i: usize, window: Window)
+        requires { ⌜ i < vec-len (now self .rows) ⌝ }
+        ensures rows { λ _. ⌜ vec-items (now (self .exit) .rows) ≡ set (vec-items (now (self .entry) .rows)) i (narrowed window (row-at (vec-items (now (self .entry) .rows)) i)) ⌝ }
+        ensures count { λ _. ⌜ vec-len (now (self .exit) .rows) ≡ vec-len (now (self .entry) .rows) ⌝ }
+        ensures room { λ _. ⌜ vec-cap (now (self .exit) .rows) ≡ vec-cap (now (self .entry) .rows) ⌝ }
+    {
+        let row = &mut self.rows[i];
+        row.narrow(window);
     }
 
     // Makes every present window the entered one again.
