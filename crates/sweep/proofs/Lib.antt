@@ -1,0 +1,3 @@
+mod Figured
+mod Applied
+mod Sounds

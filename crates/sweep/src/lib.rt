@@ -1,0 +1,6 @@
+// Apply and sweep: rules narrow the windows of a board.
+pub mod present;
+pub mod presenting;
+mod figuring;
+mod writing;
+pub mod applying;
