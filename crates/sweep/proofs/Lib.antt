@@ -1,3 +1,4 @@
 mod Figured
 mod Applied
 mod Sounds
+mod Rounded

@@ -1,3 +1,4 @@
 pub mod Meant
 pub mod Windows
 pub mod Shown
+pub mod Rounds

@@ -4,3 +4,6 @@ pub mod presenting;
 mod figuring;
 mod writing;
 pub mod applying;
+mod outcomes;
+mod rounds;
+pub mod sweeping;
