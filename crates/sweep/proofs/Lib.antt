@@ -2,3 +2,4 @@ mod Figured
 mod Applied
 mod Sounds
 mod Rounded
+mod Onward
