@@ -110,47 +110,47 @@ judged b t =
     elim (cases-lt 255 (t .pair .profile)) [
       | inl l ↦ inr (Profile, record { wrong = pair Profile (profile l); least = least-wrong 2 b t (λ h. omega arith) (λ h. omega arith) (λ h. omega arith) (λ h. omega arith) (λ h. omega arith) (λ h. omega arith) (λ h. omega arith) (λ h. omega arith) (λ h. omega arith) (λ h. absurd (omega arith)) (λ h. omega arith) })
       | inr h0 ↦
-      elim (cases-lt (t .pair .bearer) 5) [
-        | inl l ↦ inr (Bearer, record { wrong = pair Bearer (bearer-low l); least = least-wrong 3 b t (λ h. omega arith) (λ h. omega arith) (λ h. omega arith) (λ h. omega arith) (λ h. omega arith) (λ h. omega arith) (λ h. omega arith) (λ h. omega arith) (λ h. omega arith) (λ h. absurd (omega arith)) (λ h. omega arith) })
-        | inr h1 ↦
-        elim (cases-lt 15 (t .pair .bearer)) [
-          | inl l ↦ inr (Bearer, record { wrong = pair Bearer (bearer-high l); least = least-wrong 3 b t (λ h. omega arith) (λ h. omega arith) (λ h. omega arith) (λ h. omega arith) (λ h. omega arith) (λ h. omega arith) (λ h. omega arith) (λ h. omega arith) (λ h. omega arith) (λ h. absurd (omega arith)) (λ h. omega arith) })
-          | inr h2 ↦
-          elim (cases-lt (t .duration) 1) [
-            | inl l ↦ inr (Duration, record { wrong = instant l; least = least-wrong 4 b t (λ h. omega arith) (λ h. omega arith) (λ h. omega arith) (λ h. omega arith) (λ h. omega arith) (λ h. omega arith) (λ h. omega arith) (λ h. omega arith) (λ h. omega arith) (λ h. absurd (omega arith)) (λ h. omega arith) })
-            | inr h3 ↦
-            elim (cases-lt 4032 (t .duration)) [
-              | inl l ↦ inr (Duration, record { wrong = long l; least = least-wrong 4 b t (λ h. omega arith) (λ h. omega arith) (λ h. omega arith) (λ h. omega arith) (λ h. omega arith) (λ h. omega arith) (λ h. omega arith) (λ h. omega arith) (λ h. omega arith) (λ h. absurd (omega arith)) (λ h. omega arith) })
-              | inr h4 ↦
-              elim (cases-lt (t .demand) 1) [
-                | inl l ↦ inr (Demand, record { wrong = idle l; least = least-wrong 5 b t (λ h. omega arith) (λ h. omega arith) (λ h. omega arith) (λ h. omega arith) (λ h. omega arith) (λ h. omega arith) (λ h. omega arith) (λ h. omega arith) (λ h. omega arith) (λ h. absurd (omega arith)) (λ h. omega arith) })
-                | inr h5 ↦
-                elim (cases-lt (b .capacity) (t .demand)) [
-                  | inl l ↦ inr (Demand, record { wrong = greedy l; least = least-wrong 5 b t (λ h. omega arith) (λ h. omega arith) (λ h. omega arith) (λ h. omega arith) (λ h. omega arith) (λ h. omega arith) (λ h. omega arith) (λ h. omega arith) (λ h. omega arith) (λ h. absurd (omega arith)) (λ h. omega arith) })
-                  | inr h6 ↦
-                  elim (cases-lt 4032 (t .deadline)) [
-                    | inl l ↦ inr (Window, record { wrong = window (late l); least = least-wrong 6 b t (λ h. omega arith) (λ h. omega arith) (λ h. omega arith) (λ h. omega arith) (λ h. omega arith) (λ h. omega arith) (λ h. omega arith) (λ h. omega arith) (λ h. omega arith) (λ h. absurd (omega arith)) (λ h. omega arith) })
-                    | inr h7 ↦
-                    elim (cases-lt (t .deadline) (t .release + t .duration)) [
-                      | inl l ↦ inr (Window, record { wrong = window (tight l); least = least-wrong 6 b t (λ h. omega arith) (λ h. omega arith) (λ h. omega arith) (λ h. omega arith) (λ h. omega arith) (λ h. omega arith) (λ h. omega arith) (λ h. omega arith) (λ h. omega arith) (λ h. absurd (omega arith)) (λ h. omega arith) })
-                      | inr h8 ↦
-                      elim (find (t .pair) (b .rows)) [
-                        | inl l ↦ inr (Taken, record { wrong = taken (l .0) (l .1); least = least-wrong 7 b t (λ h. omega arith) (λ h. omega arith) (λ h. omega arith) (λ h. omega arith) (λ h. omega arith) (λ h. omega arith) (λ h. omega arith) (λ h. omega arith) (λ h. omega arith) (λ h. absurd (omega arith)) (λ h. omega arith) })
-                        | inr h9 ↦
-                        elim (cases-lt (length (b .rows)) 64) [
-                          | inr l ↦ inr (Full, record { wrong = full l; least = least-wrong 8 b t (λ h. omega arith) (λ h. omega arith) (λ h. omega arith) (λ h. omega arith) (λ h. omega arith) (λ h. omega arith) (λ h. omega arith) (λ h. omega arith) (λ h. omega arith) (λ h. h9) (λ h. omega arith) })
-                          | inl h10 ↦
-                          inl (λ w h. number-small w (least-wrong 11 b t (λ h. omega arith) (λ h. omega arith) (λ h. omega arith) (λ h. omega arith) (λ h. omega arith) (λ h. omega arith) (λ h. omega arith) (λ h. omega arith) (λ h. omega arith) (λ h. h9) (λ h. omega arith) w h))
-                        ]
+          elim (cases-lt (t .pair .bearer) 5) [
+            | inl l ↦ inr (Bearer, record { wrong = pair Bearer (bearer-low l); least = least-wrong 3 b t (λ h. omega arith) (λ h. omega arith) (λ h. omega arith) (λ h. omega arith) (λ h. omega arith) (λ h. omega arith) (λ h. omega arith) (λ h. omega arith) (λ h. omega arith) (λ h. absurd (omega arith)) (λ h. omega arith) })
+            | inr h1 ↦
+                elim (cases-lt 15 (t .pair .bearer)) [
+                  | inl l ↦ inr (Bearer, record { wrong = pair Bearer (bearer-high l); least = least-wrong 3 b t (λ h. omega arith) (λ h. omega arith) (λ h. omega arith) (λ h. omega arith) (λ h. omega arith) (λ h. omega arith) (λ h. omega arith) (λ h. omega arith) (λ h. omega arith) (λ h. absurd (omega arith)) (λ h. omega arith) })
+                  | inr h2 ↦
+                      elim (cases-lt (t .duration) 1) [
+                        | inl l ↦ inr (Duration, record { wrong = instant l; least = least-wrong 4 b t (λ h. omega arith) (λ h. omega arith) (λ h. omega arith) (λ h. omega arith) (λ h. omega arith) (λ h. omega arith) (λ h. omega arith) (λ h. omega arith) (λ h. omega arith) (λ h. absurd (omega arith)) (λ h. omega arith) })
+                        | inr h3 ↦
+                            elim (cases-lt 4032 (t .duration)) [
+                              | inl l ↦ inr (Duration, record { wrong = long l; least = least-wrong 4 b t (λ h. omega arith) (λ h. omega arith) (λ h. omega arith) (λ h. omega arith) (λ h. omega arith) (λ h. omega arith) (λ h. omega arith) (λ h. omega arith) (λ h. omega arith) (λ h. absurd (omega arith)) (λ h. omega arith) })
+                              | inr h4 ↦
+                                  elim (cases-lt (t .demand) 1) [
+                                    | inl l ↦ inr (Demand, record { wrong = idle l; least = least-wrong 5 b t (λ h. omega arith) (λ h. omega arith) (λ h. omega arith) (λ h. omega arith) (λ h. omega arith) (λ h. omega arith) (λ h. omega arith) (λ h. omega arith) (λ h. omega arith) (λ h. absurd (omega arith)) (λ h. omega arith) })
+                                    | inr h5 ↦
+                                        elim (cases-lt (b .capacity) (t .demand)) [
+                                          | inl l ↦ inr (Demand, record { wrong = greedy l; least = least-wrong 5 b t (λ h. omega arith) (λ h. omega arith) (λ h. omega arith) (λ h. omega arith) (λ h. omega arith) (λ h. omega arith) (λ h. omega arith) (λ h. omega arith) (λ h. omega arith) (λ h. absurd (omega arith)) (λ h. omega arith) })
+                                          | inr h6 ↦
+                                              elim (cases-lt 4032 (t .deadline)) [
+                                                | inl l ↦ inr (Window, record { wrong = window (late l); least = least-wrong 6 b t (λ h. omega arith) (λ h. omega arith) (λ h. omega arith) (λ h. omega arith) (λ h. omega arith) (λ h. omega arith) (λ h. omega arith) (λ h. omega arith) (λ h. omega arith) (λ h. absurd (omega arith)) (λ h. omega arith) })
+                                                | inr h7 ↦
+                                                    elim (cases-lt (t .deadline) (t .release + t .duration)) [
+                                                      | inl l ↦ inr (Window, record { wrong = window (tight l); least = least-wrong 6 b t (λ h. omega arith) (λ h. omega arith) (λ h. omega arith) (λ h. omega arith) (λ h. omega arith) (λ h. omega arith) (λ h. omega arith) (λ h. omega arith) (λ h. omega arith) (λ h. absurd (omega arith)) (λ h. omega arith) })
+                                                      | inr h8 ↦
+                                                          elim (find (t .pair) (b .rows)) [
+                                                            | inl l ↦ inr (Taken, record { wrong = taken (l .0) (l .1); least = least-wrong 7 b t (λ h. omega arith) (λ h. omega arith) (λ h. omega arith) (λ h. omega arith) (λ h. omega arith) (λ h. omega arith) (λ h. omega arith) (λ h. omega arith) (λ h. omega arith) (λ h. absurd (omega arith)) (λ h. omega arith) })
+                                                            | inr h9 ↦
+                                                                elim (cases-lt (length (b .rows)) 64) [
+                                                                  | inr l ↦ inr (Full, record { wrong = full l; least = least-wrong 8 b t (λ h. omega arith) (λ h. omega arith) (λ h. omega arith) (λ h. omega arith) (λ h. omega arith) (λ h. omega arith) (λ h. omega arith) (λ h. omega arith) (λ h. omega arith) (λ h. h9) (λ h. omega arith) })
+                                                                  | inl h10 ↦
+                                                                      inl (λ w h. number-small w (least-wrong 11 b t (λ h. omega arith) (λ h. omega arith) (λ h. omega arith) (λ h. omega arith) (λ h. omega arith) (λ h. omega arith) (λ h. omega arith) (λ h. omega arith) (λ h. omega arith) (λ h. h9) (λ h. omega arith) w h))
+                                                                ]
+                                                          ]
+                                                    ]
+                                              ]
+                                        ]
+                                  ]
+                            ]
                       ]
-                    ]
-                  ]
                 ]
-              ]
-            ]
           ]
-        ]
-      ]
     ]
 
 enter-same : (b : Bookings) (t : Test) {a a′ : Answer} {c c′ : Bookings} → Enters b t a c → Enters b t a′ c′ → (a ≡ a′) × (c ≡ c′)

@@ -91,7 +91,7 @@ pushed-2 = refl
 
 elastic-narrows : Applies meaning-E pushed Narrowed pushed-after
 unfolding present-entries
-elastic-narrows = 
+elastic-narrows =
     narrows pushed-none
     (of-three (λ k. ¬ Short meaning-E (at-present pushed) k) (wide meaning-E pushed 0 _ pushed-0 (omega arith)) (wide meaning-E pushed 1 _ pushed-1 (omega arith)) (wide meaning-E pushed 2 _ pushed-2 (omega arith)))
     2 (omega arith)
@@ -114,7 +114,7 @@ fixed-1 = refl
 
 table-narrows : Applies meaning-T (fixed 2) Narrowed fixed-after
 unfolding present-entries
-table-narrows = 
+table-narrows =
     narrows fixed-none
     (of-two (λ k. ¬ Short meaning-T (at-present (fixed 2)) k) (wide meaning-T (fixed 2) 0 _ fixed-0 (omega arith)) (wide meaning-T (fixed 2) 1 _ fixed-1 (omega arith)))
     1 (omega arith)
@@ -135,7 +135,7 @@ roomy-1 = refl
 
 table-rests : Applies meaning-T (fixed 3) Quiet (fixed 3)
 unfolding present-entries
-table-rests = 
+table-rests =
     rests roomy-none
     (of-two (λ k. ¬ Short meaning-T (at-present (fixed 3)) k) (wide meaning-T (fixed 3) 0 _ roomy-0 (omega arith)) (wide meaning-T (fixed 3) 1 _ roomy-1 (omega arith)))
     (of-two (λ k. Same-window meaning-T (fixed 3) k) roomy-0 roomy-1)
@@ -154,7 +154,7 @@ crammed-1 = refl
 
 table-squeezes : Applies meaning-T crammed (Squeezed 1) crammed
 unfolding present-entries
-table-squeezes = 
+table-squeezes =
     squeezes crammed-none 1 (omega arith)
     (let r = ap (λ (x : Window). x .release) crammed-1 in
     let d = ap (λ (x : Window). x .deadline) crammed-1 in
@@ -181,7 +181,7 @@ first-T-2 = refl
 
 first-T : Applies meaning-T pushed Quiet pushed
 unfolding present-entries
-first-T = 
+first-T =
     rests first-T-none
     (of-three (λ k. ¬ Short meaning-T (at-present pushed) k) (wide meaning-T pushed 0 _ first-T-0 (omega arith)) (wide meaning-T pushed 1 _ first-T-1 (omega arith)) (wide meaning-T pushed 2 _ first-T-2 (omega arith)))
     (of-three (λ k. Same-window meaning-T pushed k) first-T-0 first-T-1 first-T-2)
@@ -204,7 +204,7 @@ first-S-2 = refl
 
 first-S : Applies meaning-S pushed-after Quiet pushed-after
 unfolding present-entries
-first-S = 
+first-S =
     rests first-S-none
     (of-three (λ k. ¬ Short meaning-S (at-present pushed-after) k) (wide meaning-S pushed-after 0 _ first-S-0 (omega arith)) (wide meaning-S pushed-after 1 _ first-S-1 (omega arith)) (wide meaning-S pushed-after 2 _ first-S-2 (omega arith)))
     (of-three (λ k. Same-window meaning-S pushed-after k) first-S-0 first-S-1 first-S-2)
@@ -227,7 +227,7 @@ second-T-2 = refl
 
 second-T : Applies meaning-T pushed-after Quiet pushed-after
 unfolding present-entries
-second-T = 
+second-T =
     rests second-T-none
     (of-three (λ k. ¬ Short meaning-T (at-present pushed-after) k) (wide meaning-T pushed-after 0 _ second-T-0 (omega arith)) (wide meaning-T pushed-after 1 _ second-T-1 (omega arith)) (wide meaning-T pushed-after 2 _ second-T-2 (omega arith)))
     (of-three (λ k. Same-window meaning-T pushed-after k) second-T-0 second-T-1 second-T-2)
@@ -250,7 +250,7 @@ second-E-2 = refl
 
 second-E : Applies meaning-E pushed-after Quiet pushed-after
 unfolding present-entries
-second-E = 
+second-E =
     rests second-E-none
     (of-three (λ k. ¬ Short meaning-E (at-present pushed-after) k) (wide meaning-E pushed-after 0 _ second-E-0 (omega arith)) (wide meaning-E pushed-after 1 _ second-E-1 (omega arith)) (wide meaning-E pushed-after 2 _ second-E-2 (omega arith)))
     (of-three (λ k. Same-window meaning-E pushed-after k) second-E-0 second-E-1 second-E-2)
@@ -259,8 +259,8 @@ sweep-settles : (chain : List Application) × Sweeps (meaning-T ∷ (meaning-E �
 sweep-settles = (
   _,
   again (then first-T after-quiet (then elastic-narrows after-narrowed (then first-S after-quiet done)))
-  (λ quiet. let e = quiet .1 .0 in let z : _≡_ {A = ℕ} 0 1 = cc in omega arith)
-  (settles (then second-T after-quiet (then second-E after-quiet (then first-S after-quiet done))) (refl, (refl, (refl, tt)))),
+      (λ quiet. let e = quiet .1 .0 in let z : _≡_ {A = ℕ} 0 1 = cc in omega arith)
+      (settles (then second-T after-quiet (then second-E after-quiet (then first-S after-quiet done))) (refl, (refl, (refl, tt)))),
 )
 
 -- ---- a board without rows
