@@ -13,17 +13,13 @@ use Rattle.board.specs.declared.answers.Verdict.the-variants.{Settled}
 use Rattle.board.specs.declared.answers.Swept.{Swept}
 use Rattle.board.specs.Calls.{Bookings, Sound-bookings}
 use Rattle.runs.specs.Applying.{Applies}
-use Rattle.runs.specs.Sweeping.{Application, application, Goes-on, Passes, done, then, Breaks, All-quiet, Sweeps, settles, again, fails, spare}
+use Rattle.runs.specs.Sweeping.{Application, application, Goes-on, Passes, done, then, Breaks, All-quiet, Sweeps, settles, again, fails, Sweeps-to, spare}
 use Rattle.runs.proofs.Rounds.{passes-keeps, passes-less}
 use Rattle.runs.proofs.Spare.{spare-small}
 
 -- The answer with a verdict after so many rounds.
 abbrev pub after-rounds : Verdict → ℕ → Swept
 after-rounds v n = record { verdict = v; rounds = n }
-
--- A sweep by the rules, whatever its chain.
-abbrev pub Sweeps-to : List Meaning → Bookings → Swept → Bookings → Type 0
-Sweeps-to rules b s c = (chain : List Application) × Sweeps rules b chain s c
 
 -- After n rounds of a sweep from `start` the board is b: what a sweep from b answers, with n rounds more, a sweep from `start` answers.
 -- Each of the rounds left less to spare.

@@ -1,24 +1,26 @@
 -- What code that narrows row by row has to show of an apply.
-use Prim.Native.Nat.{ℕ, _+_, _-_, _≤_, _<_}
+use Prim.Native.Nat.{ℕ, _+_, _-_, _≤_, _<_, max}
 use mathlib.Core.Path.{_≡_, refl, sym, ap, _∙_, subst}
-use mathlib.Core.Logic.{_⊎_, inl, inr, _≢_}
+use mathlib.Core.Logic.{_⊎_, inl, inr, _↔_, _≢_}
 use mathlib.Core.List.{List}
 use native.Mathlib.Omega.{arith}
 use lib.ListN.{length, set, length-set}
 use Rattle.std.specs.declared.option.Option.the-variants.{Some, None}
 use Rattle.std.proofs.shelf.Lists.{getD-set-same, getD-set-other}
 use Rattle.std.proofs.shelf.Tests.{cases-lt, cases-order}
+use Rattle.model.specs.declared.entries.Entry.{Entry}
 use Rattle.model.specs.declared.rows.Row.{Row}
 use Rattle.model.specs.declared.windows.Window.{Window}
 use Rattle.model.specs.Changes.{narrowed}
 use Rattle.model.specs.Limits.{row-at, no-row}
 use Rattle.model.specs.Rules.{Meaning, Lawful}
-use Rattle.model.specs.Sheets.{Sheet, Sound, count, horizon, mirror}
-use Rattle.model.proofs.Mirrors.{mirror-count, mirror-sound}
+use Rattle.model.specs.Sheets.{Sheet, Sound, count, entry, horizon, mirror, mirror-entry}
+use Rattle.model.proofs.Mirrors.{mirror-at, mirror-count, mirror-sound}
 use Rattle.board.specs.declared.answers.Effect.the-variants.{Narrowed, Quiet}
 use Rattle.board.specs.Calls.{Bookings}
-use Rattle.runs.specs.Applying.{at-present, figure, figures, number, None-short, Same-window, Writes, Applies, narrows, rests}
-use Rattle.runs.proofs.Narrowing.{writes-nothing}
+use Rattle.runs.specs.Applying.{at-present, figure, figures, number, Short, None-short, Same-window, Writes, Applies, narrows, rests}
+use Rattle.runs.proofs.Boards.{present-at, present-count}
+use Rattle.runs.proofs.Narrowing.{Inside, writes-nothing}
 use Rattle.runs.proofs.RuleFigures.{figure-small}
 
 -- ---- figures
@@ -28,6 +30,27 @@ pub figures-small : (rule : Meaning) → Lawful rule → (s : Sheet) → Sound s
     (figures rule s k .release ≤ horizon) × (figure rule (mirror s) k ≤ horizon)
 figures-small rule law s sound k l =
     (figure-small rule law s sound k l, figure-small rule law (mirror s) (mirror-sound s sound) k (rw (mirror-count s) l))
+
+-- the figures of a row from the two earliest starts
+pub figures-of-row : (rule : Meaning) (b : Bookings) (k n m : ℕ) → k < length (b .rows) → rule .earliest (at-present b) k ≡ Some n →
+    rule .earliest (mirror (at-present b)) k ≡ Some m →
+    figures rule (at-present b) k ≡
+    record { release = max (row-at (b .rows) k .present .release) n; deadline = horizon - max (horizon - row-at (b .rows) k .present .deadline) m }
+figures-of-row rule b k n m l e e′ =
+    let here = present-at b k l in
+    let there = mirror-at (at-present b) k (rw (present-count b) l) ∙ ap mirror-entry here in
+    let low : figure rule (at-present b) k ≡ max (row-at (b .rows) k .present .release) n =
+    ap (λ o. max (entry (at-present b) k .release) (number o)) e ∙ ap (λ (x : Entry). max (x .release) n) here in
+    let high : figure rule (mirror (at-present b)) k ≡ max (horizon - row-at (b .rows) k .present .deadline) m =
+    ap (λ o. max (entry (mirror (at-present b)) k .release) (number o)) e′ ∙ ap (λ (x : Entry). max (x .release) m) there in
+    λ z. record { release = low z; deadline = horizon - high z }
+
+-- the figures leave a row short where they leave less than its duration
+pub short-row : (rule : Meaning) (b : Bookings) (k : ℕ) → k < length (b .rows) →
+    Short rule (at-present b) k ↔ (figures rule (at-present b) k .deadline < figures rule (at-present b) k .release + row-at (b .rows) k .duration)
+short-row rule b k l =
+    let p = ap (λ (x : Entry). x .duration) (present-at b k l) in
+    (λ h. omega arith, λ h. omega arith)
 
 -- ---- rows written up to a place
 
@@ -54,6 +77,11 @@ written-more windows n before after then l w e =
           ];
       above = λ k h. let other : k ≢ n = omega arith in getD-set-other after n k _ no-row other ∙ w .above k (omega arith);
     })
+
+-- the next row is as it was, so that its window lies inside what is there
+pub inside-next : (windows : ℕ → Window) (n : ℕ) (before after : List Row) → Written-below windows n before after →
+    Inside (row-at before n) (windows n) → Inside (row-at after n) (windows n)
+inside-next windows n before after w i = rw (w .above n (omega arith)) i
 
 -- all rows written, with windows that are the figures at every place
 pub written-all : (windows figures : ℕ → Window) (n : ℕ) (b c : Bookings) → length (b .rows) ≤ n → c .capacity ≡ b .capacity →

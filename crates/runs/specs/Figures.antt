@@ -16,7 +16,7 @@ use Rattle.timetable.specs.Meaning.{meaning-T}
 use Rattle.elastic.specs.Meaning.{meaning-E}
 use Rattle.shift.specs.Meaning.{meaning-S}
 use Rattle.runs.specs.Applying.{at-present, Applies}
-use Rattle.runs.specs.Sweeping.{Application, Sweeps, ends-as, later}
+use Rattle.runs.specs.Sweeping.{Sweeps-to, ends-as, later}
 use Rattle.runs.specs.Runs.{Rule, three}
 
 -- A window, and an interval.
@@ -72,7 +72,7 @@ crammed = board 2 (booked 5 (window 0 4) 4 2 ∷ (booked 6 (window 0 4) 1 1 ∷ 
 pub record Marked-figures : Type 0 where
   -- a board without rows settles in one round, by any three rules
   pub empty : (capacity : ℕ) → 1 ≤ capacity → capacity ≤ capacity-max → (r1 r2 r3 : Rule) →
-      (chain : List Application) × Sweeps (three r1 r2 r3) (built capacity) chain (ends-as Settled) (built capacity)
+      Sweeps-to (three r1 r2 r3) (built capacity) (ends-as Settled) (built capacity)
   -- S tells 1, 5, where an energy of 5 stands against a room of 4; E has no evidence; and S has none where the second row lasts one slot
   pub shift-tells : Applies meaning-S (nested 2) (Overfull (interval 1 5)) (nested 2)
   pub shift-energy : energy (at-present (nested 2)) 1 5 ≡ 5
@@ -82,7 +82,7 @@ pub record Marked-figures : Type 0 where
   -- one apply of E narrows the third row to 3, 10
   pub elastic-narrows : Applies meaning-E pushed Narrowed pushed-after
   -- a sweep of T, E and S narrows the same row, and settles in its second round
-  pub sweep-settles : (chain : List Application) × Sweeps (meaning-T ∷ (meaning-E ∷ (meaning-S ∷ []))) pushed chain (later (ends-as Settled)) pushed-after
+  pub sweep-settles : Sweeps-to (meaning-T ∷ (meaning-E ∷ (meaning-S ∷ []))) pushed (later (ends-as Settled)) pushed-after
   -- one apply of T narrows the second row to 4, 8, and is quiet where there is one channel more
   pub table-narrows : Applies meaning-T (fixed 2) Narrowed fixed-after
   pub table-rests : Applies meaning-T (fixed 3) Quiet (fixed 3)
