@@ -21,8 +21,8 @@ use Rattle.elastic.specs.Meaning.{meaning-E, smallest, overfull-to, overfull-fr
 use Rattle.elastic.specs.Meaning as elastic
 use Rattle.shift.specs.Meaning.{meaning-S, gather, candidates, first-that, first-negative, greatest, earliest-S}
 use Rattle.runs.specs.Applying.{present-entries, at-present, figures, Short, Same-window, Writes, Applies, finds, squeezes, narrows, rests}
-use Rattle.runs.specs.Sweeping.{Sweeps-to, settles, again, Passes, done, then, after-narrowed, after-quiet, ends-as, later}
-use Rattle.runs.specs.Runs.{Rule, three}
+use Rattle.runs.specs.Sweeping.{Sweeps-to, settles, again, fails, Passes, done, then, here, at-squeezed, after-narrowed, after-quiet}
+use Rattle.runs.specs.Runs.{Rule, three, Names, names-T, names-E, names-S, named, unnamed}
 use Rattle.runs.specs.Figures.{window, interval, nested, pushed, pushed-after, fixed, fixed-after, crammed, Marked-figures}
 use Rattle.runs.proofs.RuleFigures.{some-or-none}
 use Rattle.runs.proofs.Boards.{present-count, present-sound}
@@ -255,7 +255,7 @@ second-E =
     (of-three (λ k. ¬ Short meaning-E (at-present pushed-after) k) (wide meaning-E pushed-after 0 _ second-E-0 (omega arith)) (wide meaning-E pushed-after 1 _ second-E-1 (omega arith)) (wide meaning-E pushed-after 2 _ second-E-2 (omega arith)))
     (of-three (λ k. Same-window meaning-E pushed-after k) second-E-0 second-E-1 second-E-2)
 
-sweep-settles : Sweeps-to (meaning-T ∷ (meaning-E ∷ (meaning-S ∷ []))) pushed (later (ends-as Settled)) pushed-after
+sweep-settles : Sweeps-to (meaning-T ∷ (meaning-E ∷ (meaning-S ∷ []))) pushed (record { verdict = Settled; rounds = 2 }) pushed-after
 sweep-settles = (
   _,
   again (then first-T after-quiet (then elastic-narrows after-narrowed (then first-S after-quiet done)))
@@ -290,9 +290,12 @@ marked-figures =
       elastic-silent = elastic-none;
       shift-silent = shift-none;
       elastic-narrows = elastic-narrows;
+      letter-narrows = named names-E elastic-narrows;
+      letter-refused = unnamed (λ rule x. elim x [ ]);
       sweep-settles = sweep-settles;
       table-narrows = table-narrows;
       table-rests = table-rests;
       elastic-tells = finds (interval 0 4) elastic-found;
       table-squeezes = table-squeezes;
+      sweep-fails = (_, fails (here table-squeezes (at-squeezed 1)));
     }
