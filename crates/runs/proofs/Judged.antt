@@ -1,8 +1,8 @@
 -- Build, enter, withdraw and rebook have an answer on every board within the limits, and one only.
-use Prim.Native.Nat.{ℕ, _+_, _-_, _≤_, _<_}
+use Prim.Native.Nat.{ℕ, _+_, _≤_, _<_}
 use mathlib.Core.Path.{_≡_, refl, sym, ap, _∙_, subst}
 use mathlib.Core.Logic.{_⊎_, inl, inr}
-use mathlib.Core.List.{List, [], _∷_, _++_}
+use mathlib.Core.List.{List, [], _∷_}
 use native.Mathlib.Omega.{arith}
 use native.Mathlib.Decide.{decLe, decLt, ℕ-discrete}
 use lib.ListN.{length, getD, set}
@@ -110,10 +110,13 @@ first? : (P : Refusal → Type 0) → ((w : Refusal) → Dec (P w)) → Nothing 
 first? P p? =
     elim (least (λ n. (w : Refusal) × (number-of w ≡ n) × P w) at 11) [
       | inl (n, l, (w, e, p), low) ↦
-          inr (w, record {
-            wrong = p;
-            least = λ v q. elim (cases-lt (number-of v) n) [ inl less ↦ absurd (low (number-of v) less (v, refl, q)) | inr h ↦ omega arith ];
-          })
+          inr (
+            w,
+            record {
+              wrong = p;
+              least = λ v q. elim (cases-lt (number-of v) n) [ inl less ↦ absurd (low (number-of v) less (v, refl, q)) | inr h ↦ omega arith ];
+            },
+          )
       | inr none ↦
           inl (λ w p. elim (cases-lt (number-of w) 11) [ inl l ↦ none (number-of w) l (w, refl, p) | inr h ↦ number-small w h ])
     ]

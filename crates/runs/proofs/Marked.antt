@@ -1,10 +1,9 @@
 -- The answers on some small boards, by computation.
-use Prim.Native.Nat.{ℕ, zero, suc, _+_, _-_, _*_, _≤_, _<_}
+use Prim.Native.Nat.{ℕ, zero, suc, _+_, _≤_, _<_}
 use mathlib.Core.Path.{_≡_, refl, sym, ap, _∙_}
 use mathlib.Core.Logic.{inl, inr}
-use mathlib.Core.List.{List, [], _∷_}
+use mathlib.Core.List.{[], _∷_}
 use native.Mathlib.Omega.{arith}
-use lib.ListN.{length}
 use Rattle.std.specs.declared.option.Option.the-variants.{Some, None}
 use Rattle.model.specs.declared.windows.Window.{Window}
 use Rattle.model.specs.Changes
@@ -13,19 +12,19 @@ use Rattle.model.specs.Limits.{row-at}
 use Rattle.model.specs.Rules.{Meaning}
 use Rattle.model.specs.Sheets.{Placement, entry, mirror-entries, cut-entries}
 use Rattle.model.specs.Total.{total}
-use Rattle.board.specs.declared.answers.Effect.the-variants.{Overfull, Squeezed, Narrowed, Quiet}
+use Rattle.board.specs.declared.answers.Effect.the-variants.{Squeezed, Narrowed, Quiet}
 use Rattle.board.specs.declared.answers.Verdict.the-variants.{Settled}
-use Rattle.board.specs.Calls.{Bookings, Sound-bookings, built}
+use Rattle.board.specs.Calls.{Bookings, built}
 use Rattle.timetable.specs.Meaning.{meaning-T, first-of, first-crowded, first-room}
 use Rattle.elastic.specs.Meaning.{meaning-E, smallest, overfull-to, overfull-from, evidence-E, smallest-deadline, earliest-E}
 use Rattle.elastic.specs.Meaning as elastic
 use Rattle.shift.specs.Meaning.{meaning-S, gather, candidates, first-that, first-negative, greatest, earliest-S}
-use Rattle.runs.specs.Applying.{present-entries, at-present, figures, Short, Same-window, Writes, Applies, finds, squeezes, narrows, rests}
-use Rattle.runs.specs.Sweeping.{Sweeps-to, settles, again, fails, Passes, done, then, here, at-squeezed, after-narrowed, after-quiet}
-use Rattle.runs.specs.Runs.{Rule, three, Names, names-T, names-E, names-S, named, unnamed}
+use Rattle.runs.specs.Applying.{present-entries, at-present, figures, Short, Same-window, Applies, finds, squeezes, narrows, rests}
+use Rattle.runs.specs.Sweeping.{Sweeps-to, settles, again, fails, done, then, here, at-squeezed, after-narrowed, after-quiet}
+use Rattle.runs.specs.Runs.{Rule, names-E, named, unnamed}
 use Rattle.runs.specs.Figures.{window, interval, nested, pushed, pushed-after, fixed, fixed-after, crammed, Marked-figures}
 use Rattle.runs.proofs.RuleFigures.{some-or-none}
-use Rattle.runs.proofs.Boards.{present-count, present-sound}
+use Rattle.runs.proofs.Boards.{present-sound}
 use Rattle.runs.proofs.Stepping.{built-sound}
 
 -- ---- places

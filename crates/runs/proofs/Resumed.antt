@@ -1,19 +1,18 @@
 -- What a loop over the rounds of a sweep has to show.
-use Prim.Native.Nat.{ℕ, _+_, _≤_, _<_}
-use mathlib.Core.Path.{_≡_, refl, sym, ap, subst}
+use Prim.Native.Nat.{ℕ, _+_, _≤_}
+use mathlib.Core.Path.{_≡_, subst}
 use mathlib.Core.List.{List, [], _∷_, _++_}
 use native.Mathlib.Omega.{arith}
 use Rattle.std.specs.shelf.Lists.{All}
 use Rattle.model.specs.Rules.{Meaning, Lawful}
 use Rattle.model.specs.declared.intervals.Interval.{Interval}
 use Rattle.board.specs.declared.answers.Effect.{Effect}
-use Rattle.board.specs.declared.answers.Effect.the-variants.{Narrowed, Quiet}
 use Rattle.board.specs.declared.answers.Verdict.{Verdict}
 use Rattle.board.specs.declared.answers.Verdict.the-variants.{Settled}
 use Rattle.board.specs.declared.answers.Swept.{Swept}
 use Rattle.board.specs.Calls.{Bookings, Sound-bookings}
 use Rattle.runs.specs.Applying.{Applies}
-use Rattle.runs.specs.Sweeping.{Application, application, Goes-on, Passes, done, then, Breaks, All-quiet, Sweeps, settles, again, fails, Sweeps-to, spare}
+use Rattle.runs.specs.Sweeping.{Application, application, Goes-on, Passes, done, then, Breaks, All-quiet, settles, again, fails, Sweeps-to, spare}
 use Rattle.runs.proofs.Rounds.{passes-keeps, passes-less}
 use Rattle.runs.proofs.Spare.{spare-small}
 
