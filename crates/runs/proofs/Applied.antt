@@ -1,7 +1,6 @@
 -- What one application of a lawful rule keeps, and what its answer means.
-use Prim.Native.Nat.{ℕ, _+_, _-_, _≤_, _<_, max}
-use mathlib.Core.Path.{_≡_, refl, sym, ap, _∙_}
-use mathlib.Core.Logic.{_⊎_, inl, inr, _↔_}
+use Prim.Native.Nat.{ℕ, _<_}
+use mathlib.Core.Path.{_≡_, refl, ap, _∙_}
 use native.Mathlib.Omega.{arith}
 use lib.ListN.{length}
 use Rattle.std.specs.declared.option.Option.the-variants.{Some, None}
@@ -10,16 +9,15 @@ use Rattle.model.specs.declared.intervals.Interval.{Interval}
 use Rattle.model.specs.declared.windows.Window.{Window}
 use Rattle.model.specs.Elastic.{Is-E}
 use Rattle.model.specs.Shift.{Is-S}
-use Rattle.model.specs.Limits.{row-at}
 use Rattle.model.specs.Rules.{Meaning, Lawful}
-use Rattle.model.specs.Sheets.{Sound, Placement, Elastic, Tight, count, entry, horizon, mirror}
+use Rattle.model.specs.Sheets.{Placement, Tight, count}
 use Rattle.model.proofs.Mirrors.{mirror-at}
 use Rattle.board.specs.declared.answers.Effect.{Effect}
-use Rattle.board.specs.declared.answers.Effect.the-variants.{Overfull, Squeezed, Narrowed, Quiet}
+use Rattle.board.specs.declared.answers.Effect.the-variants.{Quiet}
 use Rattle.board.specs.Calls.{Bookings, Sound-bookings}
 use Rattle.elastic.proofs.Law.{e-is-exact, settled-windows-are-tight}
 use Rattle.shift.proofs.RuleS.{s-is-exact}
-use Rattle.runs.specs.Applying.{as-entered, at-present, figures, number, Short, Applies, finds, squeezes, narrows, rests}
+use Rattle.runs.specs.Applying.{as-entered, at-present, number, Applies, finds, squeezes, narrows, rests}
 use Rattle.runs.specs.Sweeping.{application, Goes-on, after-narrowed, after-quiet}
 use Rattle.runs.specs.Promise.{Is-overfull, told, Exact-E, Exact-S}
 use Rattle.runs.proofs.Boards.{present-count, present-at, present-sound}

@@ -1,11 +1,9 @@
 -- The two sheets of a board, place by place.
-use Prim.Native.Nat.{ℕ, _+_, _-_, _≤_, _<_}
-use mathlib.Core.Path.{_≡_, refl, sym, ap, _∙_}
-use mathlib.Core.List.{List}
+use Prim.Native.Nat.{ℕ, _<_}
+use mathlib.Core.Path.{_≡_, refl, sym, _∙_}
 use native.Mathlib.Omega.{arith}
 use lib.ListN.{length}
 use Rattle.std.proofs.shelf.Lists.{length-map, getD-map, same-lists, getD-default}
-use Rattle.model.specs.declared.rows.Row.{Row}
 use Rattle.model.specs.Limits.{row-at, no-row}
 use Rattle.model.specs.Sheets.{Sound, Placement, count, entry, blank}
 use Rattle.model.proofs.Mirrors.{Same-tasks, placed-in}

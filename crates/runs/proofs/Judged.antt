@@ -1,10 +1,10 @@
 -- Build, enter, withdraw and rebook have an answer on every board within the limits, and one only.
-use Prim.Native.Nat.{ℕ, _+_, _-_, _≤_, _<_}
-use mathlib.Core.Path.{_≡_, refl, sym, ap, _∙_}
+use Prim.Native.Nat.{ℕ, _+_, _≤_, _<_}
+use mathlib.Core.Path.{_≡_, refl, sym, ap, _∙_, subst}
 use mathlib.Core.Logic.{_⊎_, inl, inr}
-use mathlib.Core.List.{List, [], _∷_, _++_}
+use mathlib.Core.List.{List, [], _∷_}
 use native.Mathlib.Omega.{arith}
-use native.Mathlib.Decide.{ℕ-discrete}
+use native.Mathlib.Decide.{decLe, decLt, ℕ-discrete}
 use lib.ListN.{length, getD, set}
 use Rattle.std.specs.Holes.{removed}
 use Rattle.std.specs.declared.result.Result.the-variants.{Ok, Err}
@@ -20,7 +20,7 @@ use Rattle.board.specs.declared.refusals.Refusal.the-variants.{Capacity, Profil
 use Rattle.board.specs.Refusals.{number-of}
 use Rattle.board.specs.Calls.{Bookings, Sound-bookings, Answer, Nothing, First, Wrong, pair, instant, long, idle, greedy, window, taken, full, profile, bearer-low, bearer-high, Misfit, late, tight, Stands-at, Free, Builds, makes, too-small, too-large, Enters, adds, refuses, Withdraws, removes, Rebooks, moves, unfit}
 use Rattle.board.specs.Calls as calls
-use Rattle.board.proofs.Judging.{least-wrong, number-small}
+use Rattle.board.proofs.Judging.{number-small}
 
 -- What has an answer and leaves a board, one of each only.
 pub record One (Answers : Answer → Bookings → Type 0) : Type 0 where
@@ -105,53 +105,94 @@ first-unique P v w x y =
     let e : number-of v ≡ number-of w = omega (arith, x .least w (y .wrong), y .least v (x .wrong)) in
     sym (numbered v) ∙ ap by-number e ∙ numbered w
 
-judged : (b : Bookings) (t : Test) → Nothing (Wrong b t) ⊎ ((w : Refusal) × First (Wrong b t) w)
-judged b t =
-    elim (cases-lt 255 (t .pair .profile)) [
-      | inl l ↦ inr (Profile, record { wrong = pair Profile (profile l); least = least-wrong 2 b t (λ h. omega arith) (λ h. omega arith) (λ h. omega arith) (λ h. omega arith) (λ h. omega arith) (λ h. omega arith) (λ h. omega arith) (λ h. omega arith) (λ h. omega arith) (λ h. absurd (omega arith)) (λ h. omega arith) })
-      | inr h0 ↦
-      elim (cases-lt (t .pair .bearer) 5) [
-        | inl l ↦ inr (Bearer, record { wrong = pair Bearer (bearer-low l); least = least-wrong 3 b t (λ h. omega arith) (λ h. omega arith) (λ h. omega arith) (λ h. omega arith) (λ h. omega arith) (λ h. omega arith) (λ h. omega arith) (λ h. omega arith) (λ h. omega arith) (λ h. absurd (omega arith)) (λ h. omega arith) })
-        | inr h1 ↦
-        elim (cases-lt 15 (t .pair .bearer)) [
-          | inl l ↦ inr (Bearer, record { wrong = pair Bearer (bearer-high l); least = least-wrong 3 b t (λ h. omega arith) (λ h. omega arith) (λ h. omega arith) (λ h. omega arith) (λ h. omega arith) (λ h. omega arith) (λ h. omega arith) (λ h. omega arith) (λ h. omega arith) (λ h. absurd (omega arith)) (λ h. omega arith) })
-          | inr h2 ↦
-          elim (cases-lt (t .duration) 1) [
-            | inl l ↦ inr (Duration, record { wrong = instant l; least = least-wrong 4 b t (λ h. omega arith) (λ h. omega arith) (λ h. omega arith) (λ h. omega arith) (λ h. omega arith) (λ h. omega arith) (λ h. omega arith) (λ h. omega arith) (λ h. omega arith) (λ h. absurd (omega arith)) (λ h. omega arith) })
-            | inr h3 ↦
-            elim (cases-lt 4032 (t .duration)) [
-              | inl l ↦ inr (Duration, record { wrong = long l; least = least-wrong 4 b t (λ h. omega arith) (λ h. omega arith) (λ h. omega arith) (λ h. omega arith) (λ h. omega arith) (λ h. omega arith) (λ h. omega arith) (λ h. omega arith) (λ h. omega arith) (λ h. absurd (omega arith)) (λ h. omega arith) })
-              | inr h4 ↦
-              elim (cases-lt (t .demand) 1) [
-                | inl l ↦ inr (Demand, record { wrong = idle l; least = least-wrong 5 b t (λ h. omega arith) (λ h. omega arith) (λ h. omega arith) (λ h. omega arith) (λ h. omega arith) (λ h. omega arith) (λ h. omega arith) (λ h. omega arith) (λ h. omega arith) (λ h. absurd (omega arith)) (λ h. omega arith) })
-                | inr h5 ↦
-                elim (cases-lt (b .capacity) (t .demand)) [
-                  | inl l ↦ inr (Demand, record { wrong = greedy l; least = least-wrong 5 b t (λ h. omega arith) (λ h. omega arith) (λ h. omega arith) (λ h. omega arith) (λ h. omega arith) (λ h. omega arith) (λ h. omega arith) (λ h. omega arith) (λ h. omega arith) (λ h. absurd (omega arith)) (λ h. omega arith) })
-                  | inr h6 ↦
-                  elim (cases-lt 4032 (t .deadline)) [
-                    | inl l ↦ inr (Window, record { wrong = window (late l); least = least-wrong 6 b t (λ h. omega arith) (λ h. omega arith) (λ h. omega arith) (λ h. omega arith) (λ h. omega arith) (λ h. omega arith) (λ h. omega arith) (λ h. omega arith) (λ h. omega arith) (λ h. absurd (omega arith)) (λ h. omega arith) })
-                    | inr h7 ↦
-                    elim (cases-lt (t .deadline) (t .release + t .duration)) [
-                      | inl l ↦ inr (Window, record { wrong = window (tight l); least = least-wrong 6 b t (λ h. omega arith) (λ h. omega arith) (λ h. omega arith) (λ h. omega arith) (λ h. omega arith) (λ h. omega arith) (λ h. omega arith) (λ h. omega arith) (λ h. omega arith) (λ h. absurd (omega arith)) (λ h. omega arith) })
-                      | inr h8 ↦
-                      elim (find (t .pair) (b .rows)) [
-                        | inl l ↦ inr (Taken, record { wrong = taken (l .0) (l .1); least = least-wrong 7 b t (λ h. omega arith) (λ h. omega arith) (λ h. omega arith) (λ h. omega arith) (λ h. omega arith) (λ h. omega arith) (λ h. omega arith) (λ h. omega arith) (λ h. omega arith) (λ h. absurd (omega arith)) (λ h. omega arith) })
-                        | inr h9 ↦
-                        elim (cases-lt (length (b .rows)) 64) [
-                          | inr l ↦ inr (Full, record { wrong = full l; least = least-wrong 8 b t (λ h. omega arith) (λ h. omega arith) (λ h. omega arith) (λ h. omega arith) (λ h. omega arith) (λ h. omega arith) (λ h. omega arith) (λ h. omega arith) (λ h. omega arith) (λ h. h9) (λ h. omega arith) })
-                          | inl h10 ↦
-                          inl (λ w h. number-small w (least-wrong 11 b t (λ h. omega arith) (λ h. omega arith) (λ h. omega arith) (λ h. omega arith) (λ h. omega arith) (λ h. omega arith) (λ h. omega arith) (λ h. omega arith) (λ h. omega arith) (λ h. h9) (λ h. omega arith) w h))
-                        ]
-                      ]
-                    ]
-                  ]
-                ]
-              ]
-            ]
+-- of what can be decided, nothing is wrong or something comes first
+first? : (P : Refusal → Type 0) → ((w : Refusal) → Dec (P w)) → Nothing P ⊎ ((w : Refusal) × First P w)
+first? P p? =
+    elim (least (λ n. (w : Refusal) × (number-of w ≡ n) × P w) at 11) [
+      | inl (n, l, (w, e, p), low) ↦
+          inr (
+            w,
+            record {
+              wrong = p;
+              least = λ v q. elim (cases-lt (number-of v) n) [ inl less ↦ absurd (low (number-of v) less (v, refl, q)) | inr h ↦ omega arith ];
+            },
+          )
+      | inr none ↦
+          inl (λ w p. elim (cases-lt (number-of w) 11) [ inl l ↦ none (number-of w) l (w, refl, p) | inr h ↦ number-small w h ])
+    ]
+  where
+    at : (n : ℕ) → Dec ((w : Refusal) × (number-of w ≡ n) × P w)
+    at n =
+        elim (ℕ-discrete (number-of (by-number n)) n) [
+          | no h ↦ no (λ x. h (ap number-of (sym (ap by-number (x .1)) ∙ numbered (x .0)) ∙ x .1))
+          | yes e ↦ elim (p? (by-number n)) [
+            | yes p ↦ yes (by-number n, e, p)
+            | no h ↦ no (λ x. h (subst P (sym (numbered (x .0)) ∙ ap by-number (x .1)) (x .2)))
           ]
         ]
-      ]
-    ]
+
+either? : {A B : Type 0} → Dec A → Dec B → Dec (A ⊎ B)
+either? (yes a) b = yes (inl a)
+either? (no na) (yes b) = yes (inr b)
+either? (no na) (no nb) = no (λ x. elim x [ inl a ↦ na a | inr b ↦ nb b ])
+
+module _ (b : Bookings) (t : Test) where
+  -- the reasons by the refusal
+  abbrev Reason : Refusal → Type 0
+  Reason Capacity = ⊥
+  Reason Profile = 255 < t .pair .profile
+  Reason Bearer = (t .pair .bearer < 5) ⊎ (15 < t .pair .bearer)
+  Reason Duration = (t .duration < 1) ⊎ (4032 < t .duration)
+  Reason Demand = (t .demand < 1) ⊎ (b .capacity < t .demand)
+  Reason Window = (4032 < t .deadline) ⊎ (t .deadline < t .release + t .duration)
+  Reason Taken = (k : ℕ) × Stands-at (t .pair) (b .rows) k
+  Reason Full = 64 ≤ length (b .rows)
+  Reason Unknown = ⊥
+  Reason Letter = ⊥
+
+  reason : (w : Refusal) → Wrong b t w → Reason w
+  reason w (pair v (profile h)) = h
+  reason w (pair v (bearer-low h)) = inl h
+  reason w (pair v (bearer-high h)) = inr h
+  reason w (instant h) = inl h
+  reason w (long h) = inr h
+  reason w (idle h) = inl h
+  reason w (greedy h) = inr h
+  reason w (window (late h)) = inl h
+  reason w (window (tight h)) = inr h
+  reason w (taken k at) = (k, at)
+  reason w (full h) = h
+
+  wrong : (w : Refusal) → Reason w → Wrong b t w
+  wrong Capacity h = absurd h
+  wrong Profile h = pair Profile (profile h)
+  wrong Bearer (inl h) = pair Bearer (bearer-low h)
+  wrong Bearer (inr h) = pair Bearer (bearer-high h)
+  wrong Duration (inl h) = instant h
+  wrong Duration (inr h) = long h
+  wrong Demand (inl h) = idle h
+  wrong Demand (inr h) = greedy h
+  wrong Window (inl h) = window (late h)
+  wrong Window (inr h) = window (tight h)
+  wrong Taken (k, at) = taken k at
+  wrong Full h = full h
+  wrong Unknown h = absurd h
+  wrong Letter h = absurd h
+
+  reason? : (w : Refusal) → Dec (Reason w)
+  reason? Capacity = no (λ h. h)
+  reason? Profile = decLt 255 (t .pair .profile)
+  reason? Bearer = either? (decLt (t .pair .bearer) 5) (decLt 15 (t .pair .bearer))
+  reason? Duration = either? (decLt (t .duration) 1) (decLt 4032 (t .duration))
+  reason? Demand = either? (decLt (t .demand) 1) (decLt (b .capacity) (t .demand))
+  reason? Window = either? (decLt 4032 (t .deadline)) (decLt (t .deadline) (t .release + t .duration))
+  reason? Taken = elim (find (t .pair) (b .rows)) [ inl at ↦ yes at | inr free ↦ no (λ x. free (x .0) (x .1)) ]
+  reason? Full = decLe 64 (length (b .rows))
+  reason? Unknown = no (λ h. h)
+  reason? Letter = no (λ h. h)
+
+  judged : Nothing (Wrong b t) ⊎ ((w : Refusal) × First (Wrong b t) w)
+  judged = first? (Wrong b t) (λ w. elim (reason? w) [ yes h ↦ yes (wrong w h) | no h ↦ no (λ x. h (reason w x)) ])
 
 enter-same : (b : Bookings) (t : Test) {a a′ : Answer} {c c′ : Bookings} → Enters b t a c → Enters b t a′ c′ → (a ≡ a′) × (c ≡ c′)
 enter-same b t (adds none) (adds none′) = (refl, refl)

@@ -5,13 +5,12 @@ use mathlib.Core.Logic.{_⊎_, inl, inr}
 use mathlib.Core.List.{List, [], _∷_}
 use native.Mathlib.Omega.{arith}
 use Rattle.std.specs.declared.result.Result.{Result}
-use Rattle.std.specs.declared.result.Result.the-variants.{Ok, Err}
+use Rattle.std.specs.declared.result.Result.the-variants.{Ok}
 use Rattle.std.proofs.shelf.Tests.{cases-eq}
 use Rattle.model.specs.declared.intervals.Interval.{Interval}
 use Rattle.model.specs.Rules.{Meaning, Lawful}
 use Rattle.board.specs.declared.answers.Effect.{Effect}
 use Rattle.board.specs.declared.refusals.Refusal.{Refusal}
-use Rattle.board.specs.declared.refusals.Refusal.the-variants.{Letter}
 use Rattle.board.specs.Calls.{Bookings}
 use Rattle.timetable.specs.Meaning.{meaning-T}
 use Rattle.timetable.proofs.RuleT.{t-keeps-the-law}
@@ -22,7 +21,7 @@ use Rattle.shift.proofs.RuleS.{s-keeps-the-law}
 use Rattle.runs.specs.Applying.{Applies}
 use Rattle.runs.specs.Sweeping.{Application, application}
 use Rattle.runs.specs.Runs.{Names, names-T, names-E, names-S, Applies-by-letter, named, unnamed}
-use Rattle.runs.proofs.Once.{applies-once, applies-unique}
+use Rattle.runs.proofs.Once.{applies-unique}
 
 pub lawful-T : Lawful meaning-T
 lawful-T = t-keeps-the-law .1 meaning-T (t-keeps-the-law .0)

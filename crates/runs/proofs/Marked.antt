@@ -1,10 +1,9 @@
 -- The answers on some small boards, by computation.
-use Prim.Native.Nat.{ℕ, zero, suc, _+_, _-_, _*_, _≤_, _<_}
+use Prim.Native.Nat.{ℕ, zero, suc, _+_, _≤_, _<_}
 use mathlib.Core.Path.{_≡_, refl, sym, ap, _∙_}
 use mathlib.Core.Logic.{inl, inr}
-use mathlib.Core.List.{List, [], _∷_}
+use mathlib.Core.List.{[], _∷_}
 use native.Mathlib.Omega.{arith}
-use lib.ListN.{length}
 use Rattle.std.specs.declared.option.Option.the-variants.{Some, None}
 use Rattle.model.specs.declared.windows.Window.{Window}
 use Rattle.model.specs.Changes
@@ -13,19 +12,19 @@ use Rattle.model.specs.Limits.{row-at}
 use Rattle.model.specs.Rules.{Meaning}
 use Rattle.model.specs.Sheets.{Placement, entry, mirror-entries, cut-entries}
 use Rattle.model.specs.Total.{total}
-use Rattle.board.specs.declared.answers.Effect.the-variants.{Overfull, Squeezed, Narrowed, Quiet}
+use Rattle.board.specs.declared.answers.Effect.the-variants.{Squeezed, Narrowed, Quiet}
 use Rattle.board.specs.declared.answers.Verdict.the-variants.{Settled}
-use Rattle.board.specs.Calls.{Bookings, Sound-bookings, built}
+use Rattle.board.specs.Calls.{Bookings, built}
 use Rattle.timetable.specs.Meaning.{meaning-T, first-of, first-crowded, first-room}
 use Rattle.elastic.specs.Meaning.{meaning-E, smallest, overfull-to, overfull-from, evidence-E, smallest-deadline, earliest-E}
 use Rattle.elastic.specs.Meaning as elastic
 use Rattle.shift.specs.Meaning.{meaning-S, gather, candidates, first-that, first-negative, greatest, earliest-S}
-use Rattle.runs.specs.Applying.{present-entries, at-present, figures, Short, Same-window, Writes, Applies, finds, squeezes, narrows, rests}
-use Rattle.runs.specs.Sweeping.{Application, Sweeps, settles, again, Passes, done, then, after-narrowed, after-quiet, ends-as, later}
-use Rattle.runs.specs.Runs.{Rule, three}
+use Rattle.runs.specs.Applying.{present-entries, at-present, figures, Short, Same-window, Applies, finds, squeezes, narrows, rests}
+use Rattle.runs.specs.Sweeping.{Sweeps-to, settles, again, fails, done, then, here, at-squeezed, after-narrowed, after-quiet}
+use Rattle.runs.specs.Runs.{Rule, names-E, named, unnamed}
 use Rattle.runs.specs.Figures.{window, interval, nested, pushed, pushed-after, fixed, fixed-after, crammed, Marked-figures}
 use Rattle.runs.proofs.RuleFigures.{some-or-none}
-use Rattle.runs.proofs.Boards.{present-count, present-sound}
+use Rattle.runs.proofs.Boards.{present-sound}
 use Rattle.runs.proofs.Stepping.{built-sound}
 
 -- ---- places
@@ -91,7 +90,7 @@ pushed-2 = refl
 
 elastic-narrows : Applies meaning-E pushed Narrowed pushed-after
 unfolding present-entries
-elastic-narrows = 
+elastic-narrows =
     narrows pushed-none
     (of-three (λ k. ¬ Short meaning-E (at-present pushed) k) (wide meaning-E pushed 0 _ pushed-0 (omega arith)) (wide meaning-E pushed 1 _ pushed-1 (omega arith)) (wide meaning-E pushed 2 _ pushed-2 (omega arith)))
     2 (omega arith)
@@ -114,7 +113,7 @@ fixed-1 = refl
 
 table-narrows : Applies meaning-T (fixed 2) Narrowed fixed-after
 unfolding present-entries
-table-narrows = 
+table-narrows =
     narrows fixed-none
     (of-two (λ k. ¬ Short meaning-T (at-present (fixed 2)) k) (wide meaning-T (fixed 2) 0 _ fixed-0 (omega arith)) (wide meaning-T (fixed 2) 1 _ fixed-1 (omega arith)))
     1 (omega arith)
@@ -135,7 +134,7 @@ roomy-1 = refl
 
 table-rests : Applies meaning-T (fixed 3) Quiet (fixed 3)
 unfolding present-entries
-table-rests = 
+table-rests =
     rests roomy-none
     (of-two (λ k. ¬ Short meaning-T (at-present (fixed 3)) k) (wide meaning-T (fixed 3) 0 _ roomy-0 (omega arith)) (wide meaning-T (fixed 3) 1 _ roomy-1 (omega arith)))
     (of-two (λ k. Same-window meaning-T (fixed 3) k) roomy-0 roomy-1)
@@ -154,7 +153,7 @@ crammed-1 = refl
 
 table-squeezes : Applies meaning-T crammed (Squeezed 1) crammed
 unfolding present-entries
-table-squeezes = 
+table-squeezes =
     squeezes crammed-none 1 (omega arith)
     (let r = ap (λ (x : Window). x .release) crammed-1 in
     let d = ap (λ (x : Window). x .deadline) crammed-1 in
@@ -181,7 +180,7 @@ first-T-2 = refl
 
 first-T : Applies meaning-T pushed Quiet pushed
 unfolding present-entries
-first-T = 
+first-T =
     rests first-T-none
     (of-three (λ k. ¬ Short meaning-T (at-present pushed) k) (wide meaning-T pushed 0 _ first-T-0 (omega arith)) (wide meaning-T pushed 1 _ first-T-1 (omega arith)) (wide meaning-T pushed 2 _ first-T-2 (omega arith)))
     (of-three (λ k. Same-window meaning-T pushed k) first-T-0 first-T-1 first-T-2)
@@ -204,7 +203,7 @@ first-S-2 = refl
 
 first-S : Applies meaning-S pushed-after Quiet pushed-after
 unfolding present-entries
-first-S = 
+first-S =
     rests first-S-none
     (of-three (λ k. ¬ Short meaning-S (at-present pushed-after) k) (wide meaning-S pushed-after 0 _ first-S-0 (omega arith)) (wide meaning-S pushed-after 1 _ first-S-1 (omega arith)) (wide meaning-S pushed-after 2 _ first-S-2 (omega arith)))
     (of-three (λ k. Same-window meaning-S pushed-after k) first-S-0 first-S-1 first-S-2)
@@ -227,7 +226,7 @@ second-T-2 = refl
 
 second-T : Applies meaning-T pushed-after Quiet pushed-after
 unfolding present-entries
-second-T = 
+second-T =
     rests second-T-none
     (of-three (λ k. ¬ Short meaning-T (at-present pushed-after) k) (wide meaning-T pushed-after 0 _ second-T-0 (omega arith)) (wide meaning-T pushed-after 1 _ second-T-1 (omega arith)) (wide meaning-T pushed-after 2 _ second-T-2 (omega arith)))
     (of-three (λ k. Same-window meaning-T pushed-after k) second-T-0 second-T-1 second-T-2)
@@ -250,17 +249,17 @@ second-E-2 = refl
 
 second-E : Applies meaning-E pushed-after Quiet pushed-after
 unfolding present-entries
-second-E = 
+second-E =
     rests second-E-none
     (of-three (λ k. ¬ Short meaning-E (at-present pushed-after) k) (wide meaning-E pushed-after 0 _ second-E-0 (omega arith)) (wide meaning-E pushed-after 1 _ second-E-1 (omega arith)) (wide meaning-E pushed-after 2 _ second-E-2 (omega arith)))
     (of-three (λ k. Same-window meaning-E pushed-after k) second-E-0 second-E-1 second-E-2)
 
-sweep-settles : (chain : List Application) × Sweeps (meaning-T ∷ (meaning-E ∷ (meaning-S ∷ []))) pushed chain (later (ends-as Settled)) pushed-after
+sweep-settles : Sweeps-to (meaning-T ∷ (meaning-E ∷ (meaning-S ∷ []))) pushed (record { verdict = Settled; rounds = 2 }) pushed-after
 sweep-settles = (
   _,
   again (then first-T after-quiet (then elastic-narrows after-narrowed (then first-S after-quiet done)))
-  (λ quiet. let e = quiet .1 .0 in let z : _≡_ {A = ℕ} 0 1 = cc in omega arith)
-  (settles (then second-T after-quiet (then second-E after-quiet (then first-S after-quiet done))) (refl, (refl, (refl, tt)))),
+      (λ quiet. let e = quiet .1 .0 in let z : _≡_ {A = ℕ} 0 1 = cc in omega arith)
+      (settles (then second-T after-quiet (then second-E after-quiet (then first-S after-quiet done))) (refl, (refl, (refl, tt)))),
 )
 
 -- ---- a board without rows
@@ -290,9 +289,12 @@ marked-figures =
       elastic-silent = elastic-none;
       shift-silent = shift-none;
       elastic-narrows = elastic-narrows;
+      letter-narrows = named names-E elastic-narrows;
+      letter-refused = unnamed (λ rule x. elim x [ ]);
       sweep-settles = sweep-settles;
       table-narrows = table-narrows;
       table-rests = table-rests;
       elastic-tells = finds (interval 0 4) elastic-found;
       table-squeezes = table-squeezes;
+      sweep-fails = (_, fails (here table-squeezes (at-squeezed 1)));
     }

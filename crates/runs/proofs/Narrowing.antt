@@ -1,6 +1,6 @@
 -- A board with the windows that the figures of a lawful rule leave.
-use Prim.Native.Nat.{ℕ, _+_, _-_, _≤_, _<_}
-use mathlib.Core.Path.{_≡_, refl, sym, ap, _∙_, subst}
+use Prim.Native.Nat.{ℕ, _+_, _≤_, _<_}
+use mathlib.Core.Path.{_≡_, sym, ap, _∙_, subst}
 use native.Mathlib.Omega.{arith}
 use lib.ListN.{length}
 use Rattle.model.specs.declared.entries.Entry.{Entry}
@@ -9,11 +9,11 @@ use Rattle.model.specs.declared.windows.Window.{Window}
 use Rattle.model.specs.Changes.{narrowed}
 use Rattle.model.specs.Limits.{row-at, Named, Sized, Windowed, Sound-rows}
 use Rattle.model.specs.Rules.{Meaning, Lawful}
-use Rattle.model.specs.Sheets.{Placement, count, entry, horizon}
+use Rattle.model.specs.Sheets.{Placement, count, entry}
 use Rattle.model.proofs.Mirrors.{Same-tasks, placed-in}
 use Rattle.model.proofs.Same.{same-sheets}
 use Rattle.board.specs.Calls.{Bookings, Sound-bookings}
-use Rattle.runs.specs.Applying.{in-window, as-entered, at-present, figures, Short, None-short, Same-window, Writes}
+use Rattle.runs.specs.Applying.{in-window, as-entered, at-present, figures, None-short, Writes}
 use Rattle.runs.proofs.Boards.{entered-count, entered-at, present-count, present-at, present-sound, same-boards}
 use Rattle.runs.proofs.RuleFigures.{figures-hold, figures-inside}
 

@@ -1,12 +1,11 @@
 -- Every application of a rule has an answer, and one only.
-use Prim.Native.Nat.{ℕ, zero, suc, _+_, _-_, _≤_, _<_}
-use mathlib.Core.Path.{_≡_, refl, sym, ap, _∙_}
-use mathlib.Core.Logic.{_⊎_, inl, inr}
+use Prim.Native.Nat.{ℕ, zero, suc, _+_, _<_}
+use mathlib.Core.Path.{_≡_, refl, ap}
+use mathlib.Core.Logic.{inl, inr}
 use mathlib.Core.List.{List, [], _∷_}
 use native.Mathlib.Omega.{arith}
 use native.Mathlib.Decide.{decLt}
 use lib.ListN.{length}
-use Rattle.std.specs.declared.option.Option.the-variants.{Some, None}
 use Rattle.std.proofs.shelf.Tests.{cases-order}
 use Rattle.model.specs.declared.intervals.Interval.{Interval}
 use Rattle.model.specs.declared.rows.Row.{Row}

@@ -1,12 +1,10 @@
 -- Every call has one step, every list of calls one run, and every sweep ends in time.
-use Prim.Native.Nat.{ℕ, _+_, _≤_}
+use Prim.Native.Nat.{ℕ}
 use mathlib.Core.Path.{_≡_, refl, sym, ap, _∙_, subst}
-use mathlib.Core.Logic.{_⊎_, inl, inr}
+use mathlib.Core.Logic.{inl, inr}
 use mathlib.Core.List.{List, [], _∷_}
 use native.Mathlib.Omega.{arith}
-use Rattle.std.specs.declared.result.Result.the-variants.{Ok, Err}
-use Rattle.board.specs.declared.refusals.Refusal.the-variants.{Letter}
-use Rattle.board.specs.Calls.{Bookings, Sound-bookings, Answer}
+use Rattle.board.specs.Calls.{Bookings, Sound-bookings}
 use Rattle.runs.specs.Sweeping.{Application, application}
 use Rattle.runs.specs.Runs.{three, named, unnamed, Call, build, enter, withdraw, rebook, apply, apply-by-letter, sweep, Reply, answered, applied, applied-by-letter, swept, Step, builds, enters, withdraws, rebooks, applies, applies-by-letter, sweeps, Event, Run, ends, next, calls-of}
 use Rattle.runs.specs.Promise.{Every-call-has-one-step, Every-list-of-calls-has-one-run, Every-sweep-ends-in-time}

@@ -1,5 +1,5 @@
 -- The figures of a lawful rule: inside the window, and kept by every placement.
-use Prim.Native.Nat.{ℕ, _+_, _-_, _≤_, _<_, max}
+use Prim.Native.Nat.{ℕ, _+_, _-_, _≤_, _<_}
 use mathlib.Core.Path.{_≡_, refl, ap}
 use mathlib.Core.Logic.{_⊎_, inl, inr}
 use native.Mathlib.Omega.{arith}
@@ -10,7 +10,7 @@ use Rattle.model.specs.declared.intervals.Interval.{Interval}
 use Rattle.model.specs.Rules.{Meaning, Lawful}
 use Rattle.model.specs.Sheets.{Sheet, Sound, Placement, count, entry, horizon, mirror}
 use Rattle.model.proofs.Mirrors.{mirror-count, mirror-at, mirror-sound, mirror-placement}
-use Rattle.runs.specs.Applying.{figure, figures, number}
+use Rattle.runs.specs.Applying.{figure, figures}
 
 pub some-or-none : (o : Option Interval) → ((i : Interval) × (o ≡ Some i)) ⊎ (o ≡ None)
 some-or-none (Some i) = inl (i, refl)

@@ -1,25 +1,24 @@
 -- Every run keeps its promise.
-use Prim.Native.Nat.{ℕ, _+_, _≤_}
-use mathlib.Core.Path.{_≡_, refl, sym, ap, _∙_}
-use mathlib.Core.List.{List, [], _∷_}
+use Prim.Native.Nat.{ℕ}
+use mathlib.Core.Path.{_≡_, refl}
+use mathlib.Core.List.{List}
 use native.Mathlib.Omega.{arith}
 use Rattle.std.specs.shelf.Lists.{All}
 use Rattle.std.specs.declared.result.Result.{Result}
-use Rattle.std.specs.declared.result.Result.the-variants.{Ok, Err}
+use Rattle.std.specs.declared.result.Result.the-variants.{Ok}
 use Rattle.model.specs.declared.intervals.Interval.{Interval}
 use Rattle.model.specs.Elastic.{Is-E}
 use Rattle.model.specs.Shift.{Is-S}
 use Rattle.model.specs.Rules.{Meaning, Lawful}
-use Rattle.model.specs.Sheets.{Placement, No-placement}
+use Rattle.model.specs.Sheets.{No-placement}
 use Rattle.board.specs.declared.answers.Effect.{Effect}
-use Rattle.board.specs.declared.answers.Effect.the-variants.{Overfull, Squeezed, Narrowed, Quiet}
 use Rattle.board.specs.declared.answers.Verdict.the-variants.{Settled}
 use Rattle.board.specs.declared.answers.Swept.{Swept}
 use Rattle.board.specs.declared.refusals.Refusal.{Refusal}
-use Rattle.board.specs.Calls.{Bookings, Sound-bookings, built}
-use Rattle.runs.specs.Applying.{as-entered, at-present, Applies}
-use Rattle.runs.specs.Sweeping.{Application, application, Goes-on, after-narrowed, after-quiet, Sweeps}
-use Rattle.runs.specs.Runs.{Rule, three, Applies-by-letter, named, unnamed, Call, sweep, Reply, answered, applied, applied-by-letter, swept, Step, builds, enters, withdraws, rebooks, applies, applies-by-letter, sweeps, Event, Run, ends, next}
+use Rattle.board.specs.Calls.{Bookings, Sound-bookings}
+use Rattle.runs.specs.Applying.{as-entered}
+use Rattle.runs.specs.Sweeping.{Application, Goes-on}
+use Rattle.runs.specs.Runs.{Rule, three, Applies-by-letter, named, unnamed, Call, sweep, Reply, applied, applied-by-letter, swept, Step, builds, enters, withdraws, rebooks, applies, applies-by-letter, sweeps, Event, Run, ends, next}
 use Rattle.runs.specs.Promise.{Fails, overfull, squeezed, Says-no, by-apply, by-letter, sweeps-overfull, sweeps-squeezed, Settles, settled, Sweeps-with, first, second, third, Exact-E, Exact-S, Event-keeps, Every-run-keeps-its-promise}
 use Rattle.runs.proofs.Boards.{widen}
 use Rattle.runs.proofs.Applied.{Kept, kept-same, applied-keeps, applied-honest, applied-exact-E, applied-exact-S, quiet-tight}

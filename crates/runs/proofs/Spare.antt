@@ -1,7 +1,7 @@
 -- Narrowing leaves fewer slots to spare.
-use Prim.Native.Nat.{ℕ, zero, suc, _+_, _-_, _*_, _≤_, _<_}
-use mathlib.Core.Path.{_≡_, refl, sym, ap, _∙_}
-use mathlib.Core.Logic.{_⊎_, inl, inr}
+use Prim.Native.Nat.{ℕ, zero, suc, _-_, _*_, _≤_, _<_}
+use mathlib.Core.Path.{_≡_, refl, sym, ap}
+use mathlib.Core.Logic.{inl, inr}
 use native.Mathlib.Nat.{mul-le-mul-left}
 use native.Mathlib.Omega.{arith}
 use lib.ListN.{length}
@@ -9,11 +9,11 @@ use Rattle.std.proofs.shelf.Tests.{cases-eq}
 use Rattle.model.specs.declared.rows.Row.{Row}
 use Rattle.model.specs.declared.windows.Window.{Window}
 use Rattle.model.specs.Limits.{row-at}
-use Rattle.model.specs.Rules.{Meaning, Lawful}
-use Rattle.model.specs.Sheets.{horizon, rows-max}
+use Rattle.model.specs.Rules.{Meaning}
+use Rattle.model.specs.Sheets.{horizon}
 use Rattle.model.specs.Total.{total}
 use Rattle.model.proofs.Bounds.{total-most}
-use Rattle.model.proofs.Sums.{total-le, below-suc}
+use Rattle.model.proofs.Sums.{total-le}
 use Rattle.board.specs.Calls.{Bookings, Sound-bookings}
 use Rattle.board.specs.declared.answers.Effect.the-variants.{Narrowed, Quiet}
 use Rattle.runs.specs.Applying.{at-present, figures, None-short, Same-window, Writes, Applies, narrows, rests}

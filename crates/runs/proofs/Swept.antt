@@ -1,7 +1,7 @@
 -- A sweep: what it keeps, what its verdict means, that it ends in time, and that it has one answer only.
-use Prim.Native.Nat.{ℕ, zero, suc, _+_, _-_, _≤_, _<_}
-use mathlib.Core.Path.{_≡_, refl, sym, ap, _∙_, subst}
-use mathlib.Core.Logic.{_⊎_, inl, inr}
+use Prim.Native.Nat.{ℕ, zero, suc, _+_, _≤_, _<_}
+use mathlib.Core.Path.{_≡_, refl, sym, ap, subst}
+use mathlib.Core.Logic.{inl, inr}
 use mathlib.Core.List.{List, [], _∷_, _++_}
 use native.Mathlib.Omega.{arith}
 use Rattle.std.specs.shelf.Lists.{All}
@@ -16,9 +16,9 @@ use Rattle.board.specs.declared.answers.Verdict.the-variants.{Settled}
 use Rattle.board.specs.declared.answers.Swept.{Swept}
 use Rattle.board.specs.Calls.{Bookings, Sound-bookings}
 use Rattle.runs.specs.Applying.{at-present}
-use Rattle.runs.specs.Sweeping.{Application, Ends-with, at-overfull, at-squeezed, Passes, Breaks, here, after, All-quiet, Sweeps, settles, again, fails, ends-as, later, spare}
-use Rattle.runs.proofs.Applied.{Kept, kept-same, kept-both}
-use Rattle.runs.proofs.Rounds.{Of-each, Calm, Through, Broken, passes-keeps, passes-each, passes-less, passes-quiet, passes-unique, passes-or-breaks, breaks-keeps, breaks-each, breaks-honest, breaks-unique, round-once}
+use Rattle.runs.specs.Sweeping.{Application, at-overfull, at-squeezed, Breaks, here, after, All-quiet, Sweeps, settles, again, fails, ends-as, later, spare}
+use Rattle.runs.proofs.Applied.{Kept, kept-both}
+use Rattle.runs.proofs.Rounds.{Of-each, Calm, passes-keeps, passes-each, passes-less, passes-quiet, passes-unique, passes-or-breaks, breaks-keeps, breaks-each, breaks-honest, breaks-unique, round-once}
 
 quiet? : (e : Effect Interval) → Dec (e ≡ Quiet)
 quiet? (Overfull i) = no (λ e. let z : _≡_ {A = ℕ} 0 1 = cc in omega arith)

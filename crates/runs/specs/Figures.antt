@@ -3,6 +3,7 @@ use Prim.Native.Nat.{ℕ, _-_, _*_, _≤_}
 use mathlib.Core.Path.{_≡_}
 use mathlib.Core.List.{List, [], _∷_}
 use Rattle.std.specs.declared.option.Option.the-variants.{None}
+use Rattle.std.specs.declared.result.Result.the-variants.{Ok, Err}
 use Rattle.model.specs.declared.intervals.Interval.{Interval}
 use Rattle.model.specs.declared.rows.Row.{Row}
 use Rattle.model.specs.declared.windows.Window.{Window}
@@ -10,14 +11,15 @@ use Rattle.model.specs.Changes.{narrowed}
 use Rattle.model.specs.Energy.{energy}
 use Rattle.model.specs.Sheets.{capacity-max}
 use Rattle.board.specs.declared.answers.Effect.the-variants.{Overfull, Squeezed, Narrowed, Quiet}
-use Rattle.board.specs.declared.answers.Verdict.the-variants.{Settled}
+use Rattle.board.specs.declared.answers.Verdict.the-variants as verdict
+use Rattle.board.specs.declared.refusals.Refusal.the-variants as refusal
 use Rattle.board.specs.Calls.{Bookings, built, row-of}
 use Rattle.timetable.specs.Meaning.{meaning-T}
 use Rattle.elastic.specs.Meaning.{meaning-E}
 use Rattle.shift.specs.Meaning.{meaning-S}
 use Rattle.runs.specs.Applying.{at-present, Applies}
-use Rattle.runs.specs.Sweeping.{Application, Sweeps, ends-as, later}
-use Rattle.runs.specs.Runs.{Rule, three}
+use Rattle.runs.specs.Sweeping.{application, Sweeps-to}
+use Rattle.runs.specs.Runs.{Rule, three, Applies-by-letter}
 
 -- A window, and an interval.
 abbrev pub window : ℕ → ℕ → Window
@@ -72,20 +74,24 @@ crammed = board 2 (booked 5 (window 0 4) 4 2 ∷ (booked 6 (window 0 4) 1 1 ∷ 
 pub record Marked-figures : Type 0 where
   -- a board without rows settles in one round, by any three rules
   pub empty : (capacity : ℕ) → 1 ≤ capacity → capacity ≤ capacity-max → (r1 r2 r3 : Rule) →
-      (chain : List Application) × Sweeps (three r1 r2 r3) (built capacity) chain (ends-as Settled) (built capacity)
+      Sweeps-to (three r1 r2 r3) (built capacity) (record { verdict = verdict.Settled; rounds = 1 }) (built capacity)
   -- S tells 1, 5, where an energy of 5 stands against a room of 4; E has no evidence; and S has none where the second row lasts one slot
   pub shift-tells : Applies meaning-S (nested 2) (Overfull (interval 1 5)) (nested 2)
   pub shift-energy : energy (at-present (nested 2)) 1 5 ≡ 5
   pub shift-room : nested 2 .capacity * (5 - 1) ≡ 4
   pub elastic-silent : meaning-E .evidence (at-present (nested 2)) ≡ None
   pub shift-silent : meaning-S .evidence (at-present (nested 1)) ≡ None
-  -- one apply of E narrows the third row to 3, 10
+  -- one apply of E narrows the third row to 3, 10; so does one by its letter, and the letter X (88) is refused
   pub elastic-narrows : Applies meaning-E pushed Narrowed pushed-after
+  pub letter-narrows : Applies-by-letter 69 pushed (application meaning-E pushed Narrowed ∷ []) (Ok Narrowed) pushed-after
+  pub letter-refused : Applies-by-letter 88 pushed [] (Err refusal.Letter) pushed
   -- a sweep of T, E and S narrows the same row, and settles in its second round
-  pub sweep-settles : (chain : List Application) × Sweeps (meaning-T ∷ (meaning-E ∷ (meaning-S ∷ []))) pushed chain (later (ends-as Settled)) pushed-after
+  pub sweep-settles : Sweeps-to (meaning-T ∷ (meaning-E ∷ (meaning-S ∷ []))) pushed (record { verdict = verdict.Settled; rounds = 2 }) pushed-after
   -- one apply of T narrows the second row to 4, 8, and is quiet where there is one channel more
   pub table-narrows : Applies meaning-T (fixed 2) Narrowed fixed-after
   pub table-rests : Applies meaning-T (fixed 3) Quiet (fixed 3)
   -- E tells 0, 4, and T leaves row 1 short
   pub elastic-tells : Applies meaning-E crammed (Overfull (interval 0 4)) crammed
   pub table-squeezes : Applies meaning-T crammed (Squeezed 1) crammed
+  -- a sweep of T, E and S ends there at once, by the letter of T
+  pub sweep-fails : Sweeps-to (meaning-T ∷ (meaning-E ∷ (meaning-S ∷ []))) crammed (record { verdict = verdict.Squeezed 84 1; rounds = 1 }) crammed

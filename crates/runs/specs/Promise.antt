@@ -16,7 +16,7 @@ use Rattle.board.specs.declared.answers.Verdict.the-variants as verdict
 use Rattle.board.specs.declared.answers.Swept.{Swept}
 use Rattle.board.specs.Calls.{Bookings, Sound-bookings, built}
 use Rattle.runs.specs.Applying.{as-entered, at-present}
-use Rattle.runs.specs.Sweeping.{Application, Sweeps, ends-as, spare}
+use Rattle.runs.specs.Sweeping.{Application, Sweeps, spare}
 use Rattle.runs.specs.Runs.{Rule, three, Call, sweep, Reply, applied, applied-by-letter, swept, Step, Event, Run, calls-of}
 
 -- An effect that is overfull.

@@ -70,6 +70,10 @@ pub data Sweeps (rules : List Meaning) : Bookings → List Application → Swept
       Sweeps rules b′ more swept b″ → Sweeps rules b (chain ++ more) (later swept) b″
   fails : {b b′ : Bookings} {chain : List Application} {v : Verdict} → Breaks rules b chain v b′ → Sweeps rules b chain (ends-as v) b′
 
+-- A sweep with this answer, that leaves this board, by some chain of applications.
+abbrev pub Sweeps-to : List Meaning → Bookings → Swept → Bookings → Type 0
+Sweeps-to rules b s b′ = (chain : List Application) × Sweeps rules b chain s b′
+
 -- The slots to spare in the present window of a row.
 abbrev pub spare-in : Row → ℕ
 spare-in row = row .present .deadline - row .present .release - row .duration
