@@ -2,4 +2,3 @@ mod Figured
 mod Applied
 mod Sounds
 mod Rounded
-mod Onward

@@ -1,8 +1,8 @@
 // Sweep: rounds of three rules, until one of them fails or all of them are quiet.
 ghost use Prim.Native.Nat.{_+_, _≤_};
-ghost use mathlib.Core.List.{List, [], _∷_};
+ghost use mathlib.Core.List.{[], _∷_};
 ghost use Rattle.board.specs.Held.{bookings};
-ghost use Rattle.runs.specs.Sweeping.{Application, Sweeps, spare};
+ghost use Rattle.runs.specs.Sweeping.{Sweeps-to, spare};
 ghost use Rattle.runs.specs.Promise.{Every-run-keeps-its-promise, Every-list-of-calls-has-one-run};
 use board::answers::Swept;
 use board::answers::Verdict;
@@ -15,7 +15,7 @@ use rules::rule::Rule;
 // after a round in which all three are quiet. What earlier applications narrowed stays narrowed.
 // The clause `promise` says what holds after every list of calls on a newly built board, for all rules that keep the law.
 pub fn sweep<X: Rule, Y: Rule, Z: Rule>(board: &mut Board, x: &X, y: &Y, z: &Z) -> Swept
-    ensures step { λ r. ⌜ ((chain : List Application) × Sweeps (X·Rule .means (now (x .entry)) ∷ (Y·Rule .means (now (y .entry)) ∷ (Z·Rule .means (now (z .entry)) ∷ []))) (bookings (now (board .entry))) chain r (bookings (now (board .exit)))) ⌝ }
+    ensures step { λ r. ⌜ Sweeps-to (X·Rule .means (now (x .entry)) ∷ (Y·Rule .means (now (y .entry)) ∷ (Z·Rule .means (now (z .entry)) ∷ []))) (bookings (now (board .entry))) r (bookings (now (board .exit))) ⌝ }
     ensures bound { λ r. ⌜ r .rounds ≤ 1 + spare (bookings (now (board .entry))) ⌝ }
     ensures promise { λ _. ⌜ Every-run-keeps-its-promise ⌝ ∗ ⌜ Every-list-of-calls-has-one-run ⌝ }
 {
