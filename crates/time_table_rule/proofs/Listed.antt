@@ -1,0 +1,13 @@
+-- The capacity and the listed entries of a sheet are the sheet.
+use Prim.Native.Nat.{ℕ}
+use mathlib.Core.Path.{_≡_, subst, sym}
+use mathlib.Core.List.{List}
+use Rattle.model.specs.declared.entries.Entry.{Entry}
+use Rattle.model.specs.Sheets.{Sheet, Sound}
+use Rattle.time_table_rule.specs.Lines.{sheet}
+
+pub same-sheet : (s : Sheet) (capacity : ℕ) (entries : List Entry) → capacity ≡ s .capacity → entries ≡ s .entries → sheet capacity entries ≡ s
+same-sheet s capacity entries e1 e2 = λ z. record { capacity = e1 z; entries = e2 z }
+
+pub same-sound : (s : Sheet) (capacity : ℕ) (entries : List Entry) → capacity ≡ s .capacity → entries ≡ s .entries → Sound s → Sound (sheet capacity entries)
+same-sound s capacity entries e1 e2 sound = subst Sound (sym (same-sheet s capacity entries e1 e2)) sound
