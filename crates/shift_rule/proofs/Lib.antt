@@ -1,2 +1,5 @@
 pub mod Sizes
 pub mod Weighed
+pub mod Onward
+pub mod Made
+pub mod Answered

@@ -2,12 +2,14 @@
 use Prim.Native.Nat.{ℕ, _+_, _-_, _≤_, _<_}
 use mathlib.Core.Path.{_≡_}
 use mathlib.Core.Logic.{_⊎_}
+use mathlib.Core.List.{List}
 use lib.ListN.{length, getD}
 use Rattle.std.specs.declared.option.Option.{Option}
 use Rattle.std.specs.declared.option.Option.the-variants.{Some, None}
+use Rattle.std.specs.shelf.Lists.{All}
 use Rattle.model.specs.declared.intervals.Interval.{Interval}
 use Rattle.model.specs.Sheets.{Sheet, count, entry, work, rows-max}
-use Rattle.model.specs.Energy.{Is-interval, Negative-slack, Forced-end, lack, ceiling}
+use Rattle.model.specs.Energy.{Is-interval, Candidate, Negative-slack, Forced-end, lack, ceiling}
 use Rattle.model.specs.Rules.{No-later}
 use Rattle.model.specs.Shift.{Negative-candidate}
 use Rattle.shift_rule.specs.declared.surveys.Survey.{Survey}
@@ -48,3 +50,11 @@ pub record Grows (n : ℕ) (v w : Survey) : Type 0 where
 pub record Onward (s : Sheet) (v w : Survey) : Type 0 where
   pub right : Right s w
   pub grows : Grows (count s) v w
+
+-- Of a list, what is an interval is a candidate.
+abbrev pub All-candidates : Sheet → List Interval → Type 0
+All-candidates s = All (λ i. Is-interval (i .t1) (i .t2) → Candidate s (i .t1) (i .t2))
+
+-- All of a list are accounted for.
+abbrev pub All-accounted : Sheet → ℕ → Survey → List Interval → Type 0
+All-accounted s reach v = All (λ i. Accounted s reach v (i .t1) (i .t2))

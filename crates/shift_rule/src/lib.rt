@@ -2,3 +2,6 @@
 pub mod energies;
 pub mod surveys;
 pub mod visits;
+pub mod passes;
+pub mod answers;
+pub mod shifts;
