@@ -3,3 +3,4 @@ pub mod Weighed
 pub mod Onward
 pub mod Made
 pub mod Answered
+pub mod Meant
