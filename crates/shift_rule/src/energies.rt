@@ -2,8 +2,8 @@
 ghost use Prim.Native.Nat.{ℕ, _+_, _<_, _≤_};
 ghost use mathlib.Core.Path.{_≡_};
 ghost use Rattle.model.specs.Sheets.{Sound, Sound-entry};
-ghost use Rattle.model.specs.Energy.{left-part, right-part, energy-of, energy};
-ghost use Rattle.shift_rule.specs.Forced.{sheet-of, start-after};
+ghost use Rattle.model.specs.Energy.{left-part, right-part, energy-of, energy, ceiling};
+ghost use Rattle.shift_rule.specs.Forced.{sheet-of, lack-beside, start-after};
 use model::entries::Entry;
 
 // The slots that an entry runs from t1 on where it starts as early as it can.
@@ -43,7 +43,24 @@ pub(crate) fn energy(capacity: u16, entries: &[Entry], t1: u16, t2: u16) -> u32
     sum
 }
 
-// The start that an interval forces on an entry beside which it has this slack, and 0 where it forces none.
+// What an interval with this slack lacks where the entry starts as early as it can.
+fn lack_beside(e: Entry, t1: u16, t2: u16, slack: u32) -> u32
+    ensures { λ r. ⌜ r ≡ lack-beside e t1 t2 slack ⌝ }
+{
+    let early = t2.saturating_sub(t1).min(left_part(e, t1));
+    let held = early.min(right_part(e, t2));
+    (e.demand as u32 * (early - held) as u32).saturating_sub(slack)
+}
+
+// The quotient rounded up.
+fn rounded_up(x: u32, c: u32) -> u32
+    requires { ⌜ 1 ≤ c ⌝ ∗ ⌜ x + c ≤ 4294967295 ⌝ }
+    ensures { λ r. ⌜ r ≡ ceiling x c ⌝ }
+{
+    (x + (c - 1)) / c
+}
+
+// The start that an interval with this slack forces on an entry, and 0 where it forces none.
 pub(crate) fn forced_start(capacity: u16, e: Entry, t1: u16, t2: u16, slack: u32) -> u16
     requires { ⌜ Sound-entry capacity e ⌝ }
     ensures { λ r. ⌜ r ≡ start-after e t1 t2 slack ⌝ }
@@ -51,12 +68,10 @@ pub(crate) fn forced_start(capacity: u16, e: Entry, t1: u16, t2: u16, slack: u32
     if t2 >= e.deadline {
         return 0;
     }
-    let early = t2.saturating_sub(t1).min(left_part(e, t1));
-    let held = early.min(right_part(e, t2));
-    let lack = (e.demand as u32 * (early - held) as u32).saturating_sub(slack);
+    let lack = lack_beside(e, t1, t2, slack);
     if lack == 0 {
         return 0;
     }
-    let past = (lack + (e.demand as u32 - 1)) / e.demand as u32;
-    (t2 + past as u16).saturating_sub(e.duration)
+    let end = t2 as u32 + rounded_up(lack, e.demand as u32);
+    (end as u16).saturating_sub(e.duration)
 }
