@@ -117,7 +117,7 @@ module _ (s : Sheet) where
   abbrev pub Candidate-if : ℕ → ℕ → Type 0
   Candidate-if t1 t2 = Is-interval t1 t2 → Candidate s t1 t2
 
-  start-made : (t1 : ℕ) → Start-point s t1 → (j : ℕ) → j < count s → Holds-on Candidate-if (from-start t1 (entry s j))
+  pub start-made : (t1 : ℕ) → Start-point s t1 → (j : ℕ) → j < count s → Holds-on Candidate-if (from-start t1 (entry s j))
   start-made t1 st j l = (
     λ i. record { interval = i; points = inl (st, (j, l, inl refl)) },
     (
@@ -129,7 +129,7 @@ module _ (s : Sheet) where
     ),
   )
 
-  end-made : (t2 : ℕ) → End-point s t2 → (j : ℕ) → j < count s → Candidate-if (to-end t2 (entry s j) .t1) t2
+  pub end-made : (t2 : ℕ) → End-point s t2 → (j : ℕ) → j < count s → Candidate-if (to-end t2 (entry s j) .t1) t2
   end-made t2 en j l i =
       let before = i .ordered in
       let partners : Partners (to-end t2 (entry s j) .t1) t2 (entry s j) = grind (arith, tells) in
@@ -158,16 +158,16 @@ module _ (s : Sheet) where
       (all-from-getD _ (s .entries) blank (λ j lj. pair-made i j li lj))))
 
 -- ---- the first of a list
-no-later-true : (i j : Interval) → no-later? i j ≡ true → No-later i (j .t1) (j .t2)
+pub no-later-true : (i j : Interval) → no-later? i j ≡ true → No-later i (j .t1) (j .t2)
 no-later-true i j e = grind (arith, tells)
 
-no-later-false : (i j : Interval) → no-later? i j ≡ false → No-later j (i .t1) (i .t2)
+pub no-later-false : (i j : Interval) → no-later? i j ≡ false → No-later j (i .t1) (i .t2)
 no-later-false i j e = grind (arith, tells)
 
-no-later-itself : (i : Interval) → No-later i (i .t1) (i .t2)
+pub no-later-itself : (i : Interval) → No-later i (i .t1) (i .t2)
 no-later-itself i = inr (refl, omega arith)
 
-no-later-on : (i j v : Interval) → No-later i (j .t1) (j .t2) → No-later j (v .t1) (v .t2) → No-later i (v .t1) (v .t2)
+pub no-later-on : (i j v : Interval) → No-later i (j .t1) (j .t2) → No-later j (v .t1) (v .t2) → No-later i (v .t1) (v .t2)
 no-later-on i j v (inl a) (inl b) = inl (omega arith)
 no-later-on i j v (inl a) (inr b) = inl (omega arith)
 no-later-on i j v (inr a) (inl b) = inl (omega arith)

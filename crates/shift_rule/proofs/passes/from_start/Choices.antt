@@ -1,0 +1,13 @@
+-- The pass went on, and has accounted for what the entries so far make.
+use Prim.Native.Nat.{ℕ, _<_}
+use Rattle.model.specs.Sheets.{entry}
+use Rattle.shift.specs.Meaning.{from-start}
+use Rattle.shift_rule.specs.Forced.{sheet-of}
+use Rattle.shift_rule.specs.Found.{Onward, All-accounted}
+use Rattle.shift_rule.proofs.passes.from_start.Given as given
+
+abbrev pub Inv-loop-e : given.InvT-loop-e
+Inv-loop-e l =
+    Onward (sheet-of (l .capacity) (l .entries)) (l .entry .found) (l .found)
+    × ((j : ℕ) → j < l .e-index →
+    All-accounted (sheet-of (l .capacity) (l .entries)) (l .reach) (l .found) (from-start (l .t1) (entry (sheet-of (l .capacity) (l .entries)) j)))

@@ -1,0 +1,11 @@
+-- What is an interval is a candidate.
+use Rattle.shift_rule.proofs.visits.visit.Needs as need
+
+pub weigh-requires : need.weigh-requires
+weigh-requires c κs =
+    record {
+      sound = c .pre .sound;
+      right = c .pre .right;
+      candidate = c .pre .candidate (record { ordered = c .if-t1-t2 .taken; inside = c .if-t2-le-SLOTS .taken });
+      energy = c .energy .ensures;
+    }

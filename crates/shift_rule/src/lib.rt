@@ -1,0 +1,7 @@
+// S, the shift rule, run: one energy sum for each candidate, from which evidence and every earliest start follow.
+mod energies;
+mod surveys;
+mod visits;
+mod passes;
+mod answers;
+pub mod shifts;
