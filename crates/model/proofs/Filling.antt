@@ -9,10 +9,15 @@ use Rattle.std.proofs.shelf.Tests.{cases-lt}
 use Rattle.std.proofs.shelf.Lists.{getD-set-same, getD-set-other}
 
 -- What stands at each place below i, and at i, stands at each place below i + 1.
-pub fill-more : {X : Type 0} (P : ℕ → X → Type 0) (d : X) (xs : List X) (i : ℕ) (v : X) → i < length xs →
+pub fill-on : {X : Type 0} (P : ℕ → X → Type 0) (d : X) (xs : List X) (i : ℕ) (v : X) → i < length xs →
     ((k : ℕ) → k < i → P k (getD xs k d)) → P i v → (k : ℕ) → k < i + 1 → P k (getD (set xs i v) k d)
-fill-more P d xs i v l below here k h =
+fill-on P d xs i v l below here k h =
     elim (cases-lt k i) [
       | inl b ↦ let ne : k ≢ i = omega arith in subst (P k) (sym (getD-set-other xs i k v d ne)) (below k b)
       | inr b ↦ let e : k ≡ i = omega arith in rw e (subst (P i) (sym (getD-set-same xs i v d l)) here)
     ]
+
+-- The same of numbers.
+pub fill-more : (P : ℕ → ℕ → Type 0) (xs : List ℕ) (i v : ℕ) → i < length xs → ((k : ℕ) → k < i → P k (getD xs k 0)) → P i v →
+    (k : ℕ) → k < i + 1 → P k (getD (set xs i v) k 0)
+fill-more P xs i v = fill-on P 0 xs i v

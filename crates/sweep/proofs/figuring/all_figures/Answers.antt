@@ -6,7 +6,7 @@ use lib.ListN.{length, getD, length-set}
 use Rattle.std.specs.declared.option.Option.the-variants.{Some}
 use Rattle.model.specs.declared.windows.Window.{Window}
 use Rattle.model.specs.Sheets.{Sheet, count, entry, mirror}
-use Rattle.model.proofs.Filling.{fill-more}
+use Rattle.model.proofs.Filling.{fill-on}
 use Rattle.model.proofs.Mirrors.{mirror-count, mirror-sound}
 use Rattle.runs.specs.Applying.{figures}
 use Rattle.sweep.specs.Windows.{no-window}
@@ -43,4 +43,4 @@ loop-i-again g c =
     let inside : i < length (c .loop-i .windows) = omega (arith, sound .few) in
     let here = c .one-figure .ensures ∙ figured rule s i (getD starts i 0) (getD ends i 0) l (c .earliest-all-starts .ensures i l) (back i m) in
     (omega (arith, length-set (c .loop-i .windows) i (c .one-figure .result)),
-     fill-more (λ k (w : Window). w ≡ figures rule s k) no-window (c .loop-i .windows) i (c .one-figure .result) inside (c .loop-i .inv .1) here)
+     fill-on (λ k (w : Window). w ≡ figures rule s k) no-window (c .loop-i .windows) i (c .one-figure .result) inside (c .loop-i .inv .1) here)

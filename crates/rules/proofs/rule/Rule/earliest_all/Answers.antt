@@ -23,4 +23,4 @@ loop-i-again g c =
     let got = g .Self·Rule .proper (c .args .self .now) .present s sound i (omega arith) in
     let value : here ≡ valueOr (rule .earliest s i) 0 = c .unwrap-or .ensures ∙ ap (λ (p : Option ℕ). valueOr p 0) (c .earliest .ensures) in
     (omega (arith, length-set (c .loop-i .starts) i here),
-     fill-more (λ k n. rule .earliest s k ≡ Some n) 0 (c .loop-i .starts) i here lt (c .loop-i .inv .1) (stands (rule .earliest s i) (got .0) here (got .1) value))
+     fill-more (λ k n. rule .earliest s k ≡ Some n) (c .loop-i .starts) i here lt (c .loop-i .inv .1) (stands (rule .earliest s i) (got .0) here (got .1) value))

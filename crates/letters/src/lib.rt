@@ -1,0 +1,2 @@
+// Apply by letter: T, E or S.
+pub mod lettered;
