@@ -1,7 +1,7 @@
 -- One position after another of an order by release.
 use Prim.Native.Nat.{ℕ, _+_, _-_, _*_, _≤_, _<_, max}
-use mathlib.Core.Path.{_≡_, refl, sym, ap, _∙_, subst}
-use mathlib.Core.Logic.{_⊎_, inl, inr, _≢_}
+use mathlib.Core.Path.{_≡_, sym, ap, _∙_, subst}
+use mathlib.Core.Logic.{_⊎_, inl, inr}
 use mathlib.Core.List.{List}
 use native.Mathlib.Omega.{arith}
 use lib.ListN.{length, getD, set, length-set}
@@ -9,8 +9,7 @@ use Rattle.std.proofs.shelf.Lists.{getD-set-same, getD-set-other}
 use Rattle.std.proofs.shelf.Tests.{cases-lt, cases-eq}
 use Rattle.std.proofs.shelf.Ways.{tells}
 use Rattle.model.specs.declared.entries.Entry.{Entry}
-use Rattle.model.specs.Total.{total}
-use Rattle.model.specs.Sheets.{Sheet, Sound, count, entry, capacity-max}
+use Rattle.model.specs.Sheets.{Sheet, Sound, count, entry}
 use Rattle.model.specs.Energy.{work-inside, work-in}
 use Rattle.model.proofs.Sums.{total-none, total-more, total-up}
 use Rattle.elastic.specs.Pushes.{filled, Fullest}
@@ -123,14 +122,7 @@ module _ (s : Sheet) (t2 : ℕ) (order : List ℕ) (sorted : By-release (s .entr
 
   -- ---- highest levels
   module _ (levels : List ℕ) (stand : Levels s t2 (count s) levels) where
-    pub highest-none : (highest : List ℕ) → length highest ≡ 64 → Highest-before s t2 order levels highest 0 0
-    highest-none highest long =
-        record { long = long; most = λ q l. absurd (omega arith); reached = inl refl; stand = λ q l. absurd (omega arith) }
-
     module _ (highest : List ℕ) (p best : ℕ) (l : p < count s) (is : Highest-before s t2 order levels highest p best) where
-      level-p : ℕ
-      level-p = getD levels (getD order p 0) 0
-
       most : (top : ℕ) → top ≡ max best (getD levels (getD order p 0) 0) → (q : ℕ) → q < p + 1 → getD levels (getD order q 0) 0 ≤ top
       most top e q b =
           elim (cases-eq q p) [

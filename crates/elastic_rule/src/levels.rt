@@ -1,7 +1,7 @@
 // What is filled up to a deadline.
-ghost use Prim.Native.Nat.{ℕ, _+_, _≤_, _<_};
+ghost use Prim.Native.Nat.{_+_};
 ghost use mathlib.Core.Path.{_≡_};
-ghost use lib.ListN.{getD, length};
+ghost use lib.ListN.{length};
 ghost use Rattle.model.specs.Sheets.{Sound, capacity-max};
 ghost use Rattle.model.specs.Energy.{work-inside, work-in};
 ghost use Rattle.elastic_rule.specs.Orders.{Ordered};
@@ -55,7 +55,12 @@ pub(crate) fn levels(capacity: u16, entries: &[Entry], order: &[usize], t2: u16)
 }
 
 // The highest level up to t2 at a release no later than that of each entry, at its place.
-pub(crate) fn highest_levels(capacity: u16, entries: &[Entry], order: &[usize], t2: u16) -> [u32; 64]
+pub(crate) fn highest_levels(
+    capacity: u16,
+    entries: &[Entry],
+    order: &[usize],
+    t2: u16,
+) -> [u32; 64]
     requires { ⌜ Sound (sheet capacity (now entries)) ⌝ ∗ ⌜ Ordered (now entries) (now order) ⌝ }
     ensures { λ r. ⌜ Highest (sheet capacity (now (entries .entry))) t2 r ⌝ }
 {

@@ -1,9 +1,8 @@
 // The first overfull interval.
-ghost use Prim.Native.Nat.{ℕ, _+_, _≤_, _<_};
+ghost use Prim.Native.Nat.{_+_, _<_};
 ghost use mathlib.Core.Path.{_≡_};
 ghost use lib.ListN.{length};
-ghost use Rattle.std.specs.declared.option.Option.the-variants.{Some as Found, None as Nothing};
-ghost use Rattle.model.specs.Sheets.{Sound, count};
+ghost use Rattle.model.specs.Sheets.{Sound};
 ghost use Rattle.model.specs.Energy.{Overfull};
 ghost use Rattle.model.specs.Rules.{Named};
 ghost use Rattle.elastic_rule.specs.Levels.{sheet};
@@ -31,7 +30,13 @@ fn first(found: Option<Interval>, interval: Interval) -> Interval
 }
 
 // The first overfull interval once those to the deadline at place j are tried too.
-fn try_deadline(capacity: u16, entries: &[Entry], order: &[usize], j: usize, before: Option<Interval>) -> Option<Interval>
+fn try_deadline(
+    capacity: u16,
+    entries: &[Entry],
+    order: &[usize],
+    j: usize,
+    before: Option<Interval>,
+) -> Option<Interval>
     requires { ⌜ Sound (sheet capacity (now entries)) ⌝ ∗ ⌜ Ordered (now entries) (now order) ⌝ ∗ ⌜ j < length (now entries) ⌝ ∗ ⌜ Named (Tried (sheet capacity (now entries)) j 0) before ⌝ }
     ensures { λ r. ⌜ Named (Tried (sheet capacity (now (entries .entry))) (j + 1) 0) r ⌝ }
 {

@@ -2,7 +2,7 @@
 ghost use Prim.Native.Nat.{ℕ, _+_, _≤_, _<_};
 ghost use mathlib.Core.Path.{_≡_};
 ghost use lib.ListN.{getD, length};
-ghost use Rattle.model.specs.Sheets.{Sound, count, entry, blank};
+ghost use Rattle.model.specs.Sheets.{Sound, entry, blank};
 ghost use Rattle.elastic.specs.Pushes.{Fullest, Pushed-by};
 ghost use Rattle.elastic_rule.specs.Levels.{sheet};
 ghost use Rattle.elastic_rule.specs.Ends.{Ends};

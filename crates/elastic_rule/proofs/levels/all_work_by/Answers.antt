@@ -1,6 +1,6 @@
 -- All sums fit, since the work inside an interval does.
-use Prim.Native.Nat.{ℕ, _+_, _≤_, _<_}
-use mathlib.Core.Path.{_≡_, sym}
+use Prim.Native.Nat.{ℕ, _+_}
+use mathlib.Core.Path.{sym}
 use native.Mathlib.Omega.{arith}
 use Rattle.model.specs.Sheets.{entry, count, capacity-max}
 use Rattle.model.specs.Energy.{work-inside}

@@ -1,5 +1,4 @@
 -- The sum has the work of the entries before e.
-use Prim.Native.Nat.{ℕ}
 use mathlib.Core.Path.{_≡_}
 use lib.ListN.{getD}
 use Rattle.model.specs.Total.{total}

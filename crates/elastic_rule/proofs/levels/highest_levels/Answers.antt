@@ -1,10 +1,6 @@
 -- Each position has the highest level up to it.
-use Prim.Native.Nat.{ℕ, _+_, _≤_, _<_}
-use mathlib.Core.Path.{_≡_, refl}
-use native.Mathlib.Omega.{arith}
-use lib.ListN.{getD, replicate}
 use Rattle.elastic_rule.specs.Levels.{sheet}
-use Rattle.elastic_rule.proofs.Positions.{highest-none, highest-more, highest-all}
+use Rattle.elastic_rule.proofs.Positions.{highest-more, highest-all}
 use Rattle.elastic_rule.proofs.levels.highest_levels.Needs as need
 
 pub loop-p-again : need.loop-p-again

@@ -1,16 +1,14 @@
 -- The highest level at its place is what pushes an entry.
-use Prim.Native.Nat.{ℕ, _+_, _≤_, _<_}
-use mathlib.Core.Path.{_≡_, refl, sym, subst, _∙_}
-use mathlib.Core.Logic.{inl, inr, _≢_}
-use mathlib.Core.List.{List}
+use Prim.Native.Nat.{_+_, _<_}
+use mathlib.Core.Path.{_≡_, sym, subst, _∙_}
+use mathlib.Core.Logic.{_≢_}
 use native.Mathlib.Omega.{arith}
 use lib.ListN.{length, getD}
 use Rattle.std.proofs.shelf.Lists.{getD-set-other}
-use Rattle.model.specs.declared.entries.Entry.{Entry}
-use Rattle.model.specs.Sheets.{Sheet, count, entry}
+use Rattle.model.specs.Sheets.{count}
 use Rattle.model.proofs.Filling.{fill-more}
-use Rattle.elastic.specs.Pushes.{filled, Fullest, Pushed-by}
-use Rattle.elastic_rule.specs.Levels.{sheet, Levels, Highest}
+use Rattle.elastic.specs.Pushes.{Pushed-by}
+use Rattle.elastic_rule.specs.Levels.{sheet}
 use Rattle.elastic_rule.proofs.pushes.push.Needs as need
 
 pub pushed-requires : need.pushed-requires
@@ -29,8 +27,7 @@ loop-k-again c =
     let xs = c .loop-k .ends in
     let here = c .pushed .result in
     let (sound, (ordered, (there, (long, ends)))) = c .pre in
-    let lt : k < length xs = omega (arith, sound .few) in
-    (
+    let lt : k < length xs = omega (arith, sound .few) in (
       fill-more (λ i e. Pushed-by s i (c .args .j + 1) e) xs k here lt (c .loop-k .inv .0) (c .pushed .ensures),
       λ m l. let ne : m ≢ k = omega arith in getD-set-other xs k m here 0 ne ∙ c .loop-k .inv .1 m (omega arith),
     )
