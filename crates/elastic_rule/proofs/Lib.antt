@@ -1,2 +1,4 @@
+mod Inserting
 mod Listed
+mod Positions
 mod Tried

@@ -1,8 +1,8 @@
 -- One pair of a release and a deadline after another.
-use Prim.Native.Nat.{ℕ, _+_, _-_, _*_, _≤_, _<_}
-use mathlib.Core.Path.{_≡_, refl, sym}
+use Prim.Native.Nat.{ℕ, _+_, _≤_, _<_}
+use mathlib.Core.Path.{_≡_, refl}
 use mathlib.Core.Logic.{_⊎_, inl, inr}
-use mathlib.Core.Bool.{Bool, true, false, cond, _&&_, _||_}
+use mathlib.Core.Bool.{true, false, _&&_, _||_}
 use native.Mathlib.Omega.{arith}
 use lib.Dec.{ltb, eqb}
 use Rattle.std.specs.declared.option.Option.{Option}
@@ -10,16 +10,13 @@ use Rattle.std.specs.declared.option.Option.the-variants.{Some, None}
 use Rattle.std.proofs.shelf.Tests.{cases-lt, cases-eq, cond-both}
 use Rattle.std.proofs.shelf.Ways.{tells}
 use Rattle.model.specs.declared.intervals.Interval.{Interval}
-use Rattle.model.specs.Sheets.{Sheet, Sound, count, entry}
-use Rattle.model.specs.Energy.{Overfull, work-in}
+use Rattle.model.specs.Sheets.{Sheet, count, entry}
+use Rattle.model.specs.Energy.{Overfull}
 use Rattle.model.specs.Rules.{Named, No-later}
 use Rattle.model.proofs.Search.{Or, named-alone, named-before, named-after, named-same}
 use Rattle.elastic_rule.specs.Tried.{Overfull-between, Tried, sooner}
 
 -- the first of what was found and of one interval more is the first of all
-earlier? : Interval → Interval → Bool
-earlier? i f = ltb (i .t1) (f .t1) || (eqb (i .t1) (f .t1) && ltb (i .t2) (f .t2))
-
 is-earlier : (i f : Interval) → ltb (i .t1) (f .t1) || (eqb (i .t1) (f .t1) && ltb (i .t2) (f .t2)) ≡ true → (i .t1 < f .t1) ⊎ ((i .t1 ≡ f .t1) × (i .t2 ≤ f .t2))
 is-earlier i f e =
     elim (cases-lt (i .t1) (f .t1)) [

@@ -1,58 +1,76 @@
 // What is filled up to a deadline.
-ghost use Prim.Native.Nat.{ℕ, _≤_, _<_};
+ghost use Prim.Native.Nat.{_+_};
 ghost use mathlib.Core.Path.{_≡_};
-ghost use lib.ListN.{getD, length};
-ghost use Rattle.model.specs.Sheets.{Sound, count, entry, horizon, blank};
-ghost use Rattle.model.specs.Energy.{work-inside};
-ghost use Rattle.elastic.specs.Pushes.{filled};
-ghost use Rattle.elastic_rule.specs.Levels.{sheet, Levels, Highest};
+ghost use lib.ListN.{length};
+ghost use Rattle.model.specs.Sheets.{Sound, capacity-max};
+ghost use Rattle.model.specs.Energy.{work-inside, work-in};
+ghost use Rattle.elastic_rule.specs.Orders.{Ordered};
+ghost use Rattle.elastic_rule.specs.Levels.{sheet, Bounded, Levels, Highest};
 use model::entries::Entry;
 
-// The work of an entry whose window lies inside an interval, else 0.
-fn work_inside(e: Entry, t1: u16, t2: u16) -> u32
-    ensures { λ r. ⌜ r ≡ work-inside t1 t2 e ⌝ }
+// The work of an entry that ends by t2, else 0.
+fn work_by(e: Entry, t2: u16) -> u32
+    ensures { λ r. ⌜ r ≡ work-inside 0 t2 e ⌝ }
 {
-    if t1 <= e.release && e.deadline <= t2 {
+    if e.deadline <= t2 {
         e.duration as u32 * e.demand as u32
     } else {
         0
     }
 }
 
-// What is taken in all where the slots before t1 are full and the work inside t1, t2 comes after.
-fn level(capacity: u16, entries: &[Entry], t1: u16, t2: u16) -> u32
-    requires { ⌜ Sound (sheet capacity (now entries)) ⌝ ∗ ⌜ t1 ≤ horizon ⌝ }
-    ensures { λ r. ⌜ r ≡ filled (sheet capacity (now (entries .entry))) t1 t2 ⌝ }
+// The work of all entries that end by t2.
+fn all_work_by(entries: &[Entry], t2: u16) -> u32
+    requires { ⌜ Bounded (now entries) ⌝ }
+    ensures { λ r. ⌜ r ≡ work-in (sheet capacity-max (now (entries .entry))) 0 t2 ⌝ }
 {
-    let mut sum = capacity as u32 * t1 as u32;
+    let mut sum = 0;
     for e in entries {
-        sum += work_inside(*e, t1, t2);
+        sum += work_by(*e, t2);
     }
     sum
 }
 
-// What is filled up to t2 from the release of each entry, at its place.
-pub(crate) fn levels(capacity: u16, entries: &[Entry], t2: u16) -> [u32; 64]
-    requires { ⌜ Sound (sheet capacity (now entries)) ⌝ }
+// What is filled up to t2 from the release of each entry, at its place. Through the entries in order of rising release, what is
+// inside from a release on is what is left when the first entry of that release comes.
+pub(crate) fn levels(capacity: u16, entries: &[Entry], order: &[usize], t2: u16) -> [u32; 64]
+    requires { ⌜ Sound (sheet capacity (now entries)) ⌝ ∗ ⌜ Ordered (now entries) (now order) ⌝ }
     ensures { λ r. ⌜ Levels (sheet capacity (now (entries .entry))) t2 (length (now (entries .entry))) r ⌝ }
 {
     let mut levels = [0; 64];
-    for i in 0..entries.len() {
-        levels[i] = level(capacity, entries, entries[i].release, t2);
+    let mut rest = all_work_by(entries, t2);
+    let mut release = 0;
+    let mut inside = rest;
+    for p in 0..entries.len() {
+        let k = order[p];
+        let e = entries[k];
+        if e.release > release {
+            inside = rest;
+        }
+        levels[k] = capacity as u32 * e.release as u32 + inside;
+        release = e.release;
+        rest -= work_by(e, t2);
     }
     levels
 }
 
-// The highest of `least` and of the levels at releases no later than r.
-pub(crate) fn highest(entries: &[Entry], levels: &[u32], r: u16, least: u32) -> u32
-    requires { ⌜ length (now entries) ≤ length (now levels) ⌝ }
-    ensures { λ b. ⌜ Highest (now (entries .entry)) (now (levels .entry)) r (length (now (entries .entry))) least b ⌝ }
+// The highest level up to t2 at a release no later than that of each entry, at its place.
+pub(crate) fn highest_levels(
+    capacity: u16,
+    entries: &[Entry],
+    order: &[usize],
+    t2: u16,
+) -> [u32; 64]
+    requires { ⌜ Sound (sheet capacity (now entries)) ⌝ ∗ ⌜ Ordered (now entries) (now order) ⌝ }
+    ensures { λ r. ⌜ Highest (sheet capacity (now (entries .entry))) t2 r ⌝ }
 {
-    let mut best = least;
-    for i in 0..entries.len() {
-        if entries[i].release <= r && levels[i] > best {
-            best = levels[i];
-        }
+    let filled = levels(capacity, entries, order, t2);
+    let mut highest = [0; 64];
+    let mut best: u32 = 0;
+    for p in 0..entries.len() {
+        let k = order[p];
+        best = best.max(filled[k]);
+        highest[k] = best;
     }
-    best
+    highest
 }

@@ -1,14 +1,15 @@
 // The first overfull interval.
-ghost use Prim.Native.Nat.{ℕ, _+_, _≤_, _<_};
+ghost use Prim.Native.Nat.{_+_, _<_};
 ghost use mathlib.Core.Path.{_≡_};
 ghost use lib.ListN.{length};
-ghost use Rattle.std.specs.declared.option.Option.the-variants.{Some as Found, None as Nothing};
-ghost use Rattle.model.specs.Sheets.{Sound, count};
+ghost use Rattle.model.specs.Sheets.{Sound};
 ghost use Rattle.model.specs.Energy.{Overfull};
 ghost use Rattle.model.specs.Rules.{Named};
 ghost use Rattle.elastic_rule.specs.Levels.{sheet};
 ghost use Rattle.elastic_rule.specs.Tried.{Tried, sooner};
+ghost use Rattle.elastic_rule.specs.Orders.{Ordered};
 use crate::levels::levels;
+use crate::orders::by_release;
 use model::entries::Entry;
 use model::intervals::Interval;
 
@@ -29,12 +30,18 @@ fn first(found: Option<Interval>, interval: Interval) -> Interval
 }
 
 // The first overfull interval once those to the deadline at place j are tried too.
-fn try_deadline(capacity: u16, entries: &[Entry], j: usize, before: Option<Interval>) -> Option<Interval>
-    requires { ⌜ Sound (sheet capacity (now entries)) ⌝ ∗ ⌜ j < length (now entries) ⌝ ∗ ⌜ Named (Tried (sheet capacity (now entries)) j 0) before ⌝ }
+fn try_deadline(
+    capacity: u16,
+    entries: &[Entry],
+    order: &[usize],
+    j: usize,
+    before: Option<Interval>,
+) -> Option<Interval>
+    requires { ⌜ Sound (sheet capacity (now entries)) ⌝ ∗ ⌜ Ordered (now entries) (now order) ⌝ ∗ ⌜ j < length (now entries) ⌝ ∗ ⌜ Named (Tried (sheet capacity (now entries)) j 0) before ⌝ }
     ensures { λ r. ⌜ Named (Tried (sheet capacity (now (entries .entry))) (j + 1) 0) r ⌝ }
 {
     let t2 = entries[j].deadline;
-    let filled = levels(capacity, entries, t2);
+    let filled = levels(capacity, entries, order, t2);
     let room = capacity as u32 * t2 as u32;
     let mut found = before;
     for i in 0..entries.len() {
@@ -51,9 +58,10 @@ pub(crate) fn first_overfull(capacity: u16, entries: &[Entry]) -> Option<Interva
     requires { ⌜ Sound (sheet capacity (now entries)) ⌝ }
     ensures { λ r. ⌜ Named (Overfull (sheet capacity (now (entries .entry)))) r ⌝ }
 {
+    let order = by_release(entries);
     let mut found = None;
     for j in 0..entries.len() {
-        found = try_deadline(capacity, entries, j, found);
+        found = try_deadline(capacity, entries, &order, j, found);
     }
     found
 }

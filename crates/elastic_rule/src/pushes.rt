@@ -2,12 +2,13 @@
 ghost use Prim.Native.Nat.{ℕ, _+_, _≤_, _<_};
 ghost use mathlib.Core.Path.{_≡_};
 ghost use lib.ListN.{getD, length};
-ghost use Rattle.model.specs.Sheets.{Sound, count, entry, blank};
+ghost use Rattle.model.specs.Sheets.{Sound, entry, blank};
 ghost use Rattle.elastic.specs.Pushes.{Fullest, Pushed-by};
 ghost use Rattle.elastic_rule.specs.Levels.{sheet};
 ghost use Rattle.elastic_rule.specs.Ends.{Ends};
-use crate::levels::highest;
-use crate::levels::levels;
+ghost use Rattle.elastic_rule.specs.Orders.{Ordered};
+use crate::levels::highest_levels;
+use crate::orders::by_release;
 use model::entries::Entry;
 
 // The end of the entry at place k once the deadline at place j pushes it too. Where what is filled up to that deadline leaves
@@ -32,15 +33,14 @@ fn pushed(capacity: u16, entries: &[Entry], k: usize, j: usize, level: u32, end:
 }
 
 // Lets the deadline at place j push every entry.
-fn push(capacity: u16, entries: &[Entry], j: usize, ends: &mut [u32])
-    requires { ⌜ Sound (sheet capacity (now entries)) ⌝ ∗ ⌜ j < length (now entries) ⌝ ∗ ⌜ length (now ends) ≡ 64 ⌝
+fn push(capacity: u16, entries: &[Entry], order: &[usize], j: usize, ends: &mut [u32])
+    requires { ⌜ Sound (sheet capacity (now entries)) ⌝ ∗ ⌜ Ordered (now entries) (now order) ⌝ ∗ ⌜ j < length (now entries) ⌝ ∗ ⌜ length (now ends) ≡ 64 ⌝
         ∗ ⌜ Ends (sheet capacity (now entries)) j (length (now entries)) (now ends) ⌝ }
     ensures { λ _. ⌜ Ends (sheet capacity (now (entries .entry))) (j + 1) (length (now (entries .entry))) (now (ends .exit)) ⌝ }
 {
-    let filled = levels(capacity, entries, entries[j].deadline);
+    let highest = highest_levels(capacity, entries, order, entries[j].deadline);
     for k in 0..entries.len() {
-        let level = highest(entries, &filled, entries[k].release, filled[k]);
-        ends[k] = pushed(capacity, entries, k, j, level, ends[k]);
+        ends[k] = pushed(capacity, entries, k, j, highest[k], ends[k]);
     }
 }
 
@@ -61,9 +61,10 @@ pub(crate) fn ends(capacity: u16, entries: &[Entry]) -> [u32; 64]
     requires { ⌜ Sound (sheet capacity (now entries)) ⌝ }
     ensures { λ r. ⌜ Ends (sheet capacity (now (entries .entry))) (length (now (entries .entry))) (length (now (entries .entry))) r ⌝ }
 {
+    let order = by_release(entries);
     let mut ends = soonest_ends(entries);
     for j in 0..entries.len() {
-        push(capacity, entries, j, &mut ends);
+        push(capacity, entries, &order, j, &mut ends);
     }
     ends
 }

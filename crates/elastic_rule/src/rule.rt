@@ -1,5 +1,4 @@
 // E as a rule.
-ghost use denote.Ref.{now};
 ghost use Rattle.elastic.specs.Meaning.{meaning-E, evidence-E};
 ghost use Rattle.elastic.proofs.IsE.{is-E};
 ghost use Rattle.elastic.proofs.Law.{lawful-E};

@@ -1,18 +1,18 @@
 -- One slot after another, for a search of room.
 use Prim.Native.Nat.{ℕ, _+_, _-_, _*_, _≤_, _<_}
-use mathlib.Core.Path.{_≡_, refl}
-use mathlib.Core.Logic.{_⊎_, inl, inr}
+use mathlib.Core.Path.{refl}
+use mathlib.Core.Logic.{inl, inr}
 use native.Mathlib.Nat.{mul-le-mul-left}
 use native.Mathlib.Omega.{arith}
 use Rattle.std.proofs.shelf.Tests.{cases-lt, cases-eq}
 use Rattle.std.proofs.shelf.Ways.{tells}
 use Rattle.model.specs.declared.entries.Entry.{Entry}
 use Rattle.model.specs.Total.{total}
-use Rattle.model.specs.Sheets.{Sheet, Sound, count, entry, horizon, capacity-max, rows-max}
-use Rattle.model.specs.TimeTable.{fixed-at, usage, usage-of-others, Room-at, First-room, No-room}
+use Rattle.model.specs.Sheets.{Sheet, Sound, count, entry, rows-max}
+use Rattle.model.specs.TimeTable.{fixed-at, usage-of-others, Room-at, No-room}
 use Rattle.model.proofs.Bounds.{total-most}
-use Rattle.time_table_rule.specs.Lines.{sheet, Bounded}
-use Rattle.time_table_rule.specs.Rooms.{Room-between, Seen}
+use Rattle.time_table_rule.specs.Lines.{Bounded}
+use Rattle.time_table_rule.specs.Rooms.{Seen}
 
 -- a fixed part uses no more than the demand
 pub fixed-most : (e : Entry) (t : ℕ) → fixed-at t e ≤ e .demand

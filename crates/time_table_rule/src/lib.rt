@@ -1,5 +1,5 @@
 // T, the time table rule, run: the usage of every slot by fixed parts, the first crowded slot, and the first room of each entry.
-mod usage;
 mod crowded;
-mod starts;
 pub mod rule;
+mod starts;
+mod usage;

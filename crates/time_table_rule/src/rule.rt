@@ -1,5 +1,4 @@
 // T as a rule.
-ghost use denote.Ref.{now};
 ghost use Rattle.timetable.specs.Meaning.{meaning-T};
 ghost use Rattle.timetable.proofs.RuleT.{is-T, lawful-T};
 ghost use Rattle.time_table_rule.specs.Shown.{shown};

@@ -1,9 +1,6 @@
--- The levels before i stand.
-use Prim.Native.Nat.{ℕ}
-use mathlib.Core.Path.{_≡_}
-use lib.ListN.{length}
-use Rattle.elastic_rule.specs.Levels.{sheet, Levels}
+-- The levels of the positions before p stand.
+use Rattle.elastic_rule.specs.Levels.{sheet, Levelled}
 use Rattle.elastic_rule.proofs.levels.levels.Given as given
 
-abbrev pub Inv-loop-i : given.InvT-loop-i
-Inv-loop-i l = (length (l .levels) ≡ 64) × Levels (sheet (l .capacity) (l .entries)) (l .t2) (l .i) (l .levels)
+abbrev pub Inv-loop-p : given.InvT-loop-p
+Inv-loop-p l = Levelled (sheet (l .capacity) (l .entries)) (l .t2) (l .order) (l .levels) (l .p) (l .release) (l .inside) (l .rest)

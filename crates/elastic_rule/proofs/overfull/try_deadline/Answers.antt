@@ -1,5 +1,5 @@
 -- A pair is overfull exactly where what is filled is more than all room up to its deadline.
-use Prim.Native.Nat.{ℕ, _+_, _-_, _*_, _≤_, _<_}
+use Prim.Native.Nat.{ℕ, _+_, _*_, _≤_, _<_}
 use mathlib.Core.Path.{_≡_, refl, sym, subst, ap, _∙_}
 use mathlib.Core.Logic.{_⊎_, inl, inr}
 use native.Mathlib.Omega.{arith}
@@ -33,7 +33,7 @@ loop-i-again c =
     let j = c .args .j in
     let t1 = entry s i .release in
     let t2 = entry s j .deadline in
-    let (sound, (there, named)) = c .pre in
+    let (sound, (ordered, (there, named))) = c .pre in
     let here : i < count s = omega arith in
     let level = c .levels-filled .ensures i here in
     let fits : (filled s t1 t2 ≤ s .capacity * t2) ⊎ (t2 ≤ t1) → Named (Tried s j (i + 1)) (c .loop-i .found) =

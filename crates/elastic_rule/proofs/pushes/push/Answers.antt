@@ -1,39 +1,24 @@
--- The highest of the levels at releases no later than its own is what pushes an entry.
-use Prim.Native.Nat.{ℕ, _+_, _≤_, _<_}
-use mathlib.Core.Path.{_≡_, refl, sym, subst, _∙_}
-use mathlib.Core.Logic.{inl, inr, _≢_}
-use mathlib.Core.List.{List}
+-- The highest level at its place is what pushes an entry.
+use Prim.Native.Nat.{_+_, _<_}
+use mathlib.Core.Path.{_≡_, sym, subst, _∙_}
+use mathlib.Core.Logic.{_≢_}
 use native.Mathlib.Omega.{arith}
 use lib.ListN.{length, getD}
 use Rattle.std.proofs.shelf.Lists.{getD-set-other}
-use Rattle.model.specs.declared.entries.Entry.{Entry}
-use Rattle.model.specs.Sheets.{Sheet, count, entry}
+use Rattle.model.specs.Sheets.{count}
 use Rattle.model.proofs.Filling.{fill-more}
-use Rattle.elastic.specs.Pushes.{filled, Fullest, Pushed-by}
-use Rattle.elastic_rule.specs.Levels.{sheet, Levels, Highest}
+use Rattle.elastic.specs.Pushes.{Pushed-by}
+use Rattle.elastic_rule.specs.Levels.{sheet}
 use Rattle.elastic_rule.proofs.pushes.push.Needs as need
-
-fullest : (s : Sheet) (t2 k b : ℕ) (levels : List ℕ) → k < count s → Levels s t2 (count s) levels →
-    Highest (s .entries) levels (entry s k .release) (count s) (getD levels k 0) b → Fullest s (entry s k .release) t2 (count s) b
-fullest s t2 k b levels here at high =
-    record {
-      most = λ i li le. omega (arith, at i li, high .most i li le);
-      reached = elim (high .reached) [
-        | inl e ↦ (k, here, (omega arith, omega (arith, at k here)))
-        | inr (i, li, le, e) ↦ (i, li, (le, omega (arith, at i li)))
-      ];
-    }
 
 pub pushed-requires : need.pushed-requires
 pushed-requires c κs =
     let s = sheet (c .args .capacity) (c .args .entries .now) in
     let k = c .loop-k .k in
-    let t2 = entry s (c .args .j) .deadline in
-    let (sound, (there, (long, ends))) = c .pre in
+    let (sound, (ordered, (there, (long, ends)))) = c .pre in
     let lt : k < count s = omega arith in
     let same : getD (c .loop-k .ends) k 0 ≡ getD (c .args .ends .now) k 0 = c .loop-k .inv .1 k (omega arith) in
-    let full = fullest s t2 k (c .highest-level .result) (c .levels-filled .result) lt (c .levels-filled .ensures) (c .highest-level .ensures) in
-    (sound, (lt, (there, (full, subst (Pushed-by s k (c .args .j)) (sym same) (ends k lt)))))
+    (sound, (lt, (there, (c .highest-levels-highest .ensures k lt, subst (Pushed-by s k (c .args .j)) (sym same) (ends k lt)))))
 
 pub loop-k-again : need.loop-k-again
 loop-k-again c =
@@ -41,9 +26,8 @@ loop-k-again c =
     let k = c .loop-k .k in
     let xs = c .loop-k .ends in
     let here = c .pushed .result in
-    let (sound, (there, (long, ends))) = c .pre in
-    let lt : k < length xs = omega (arith, sound .few) in
-    (
+    let (sound, (ordered, (there, (long, ends)))) = c .pre in
+    let lt : k < length xs = omega (arith, sound .few) in (
       fill-more (λ i e. Pushed-by s i (c .args .j + 1) e) xs k here lt (c .loop-k .inv .0) (c .pushed .ensures),
       λ m l. let ne : m ≢ k = omega arith in getD-set-other xs k m here 0 ne ∙ c .loop-k .inv .1 m (omega arith),
     )

@@ -1,7 +1,7 @@
 -- The entries before k are pushed, and the others are as they were.
-use Prim.Native.Nat.{ℕ, _+_, _≤_, _<_}
+use Prim.Native.Nat.{ℕ, _+_, _≤_}
 use mathlib.Core.Path.{_≡_}
-use lib.ListN.{length, getD}
+use lib.ListN.{getD}
 use Rattle.elastic_rule.specs.Levels.{sheet}
 use Rattle.elastic_rule.specs.Ends.{Ends}
 use Rattle.elastic_rule.proofs.pushes.push.Given as given

@@ -1,12 +1,11 @@
 -- What is filled and the work of one entry fit, and each way out is a step of the pushes.
-use Prim.Native.Nat.{ℕ, _+_, _-_, _*_, _/_, _≤_, _<_, max}
-use mathlib.Core.Path.{_≡_, refl, sym}
+use Prim.Native.Nat.{ℕ, _+_, _*_, _≤_, _<_, max}
 use native.Mathlib.Nat.{mul-le-mul}
 use native.Mathlib.Omega.{arith}
 use Rattle.model.specs.Sheets.{Sheet, Sound, count, entry, work, horizon, capacity-max}
 use Rattle.model.proofs.Bounds.{work-small, work-in-small}
-use Rattle.elastic.specs.Pushes.{filled, Fullest, Pushed-by}
-use Rattle.elastic.proofs.Pushed.{pushed-beyond, pushed-not, pushed-past}
+use Rattle.elastic.specs.Pushes.{Fullest}
+use Rattle.elastic.proofs.Pushed.{pushed-past}
 use Rattle.elastic_rule.specs.Levels.{sheet}
 use Rattle.elastic_rule.proofs.pushes.pushed.Needs as need
 

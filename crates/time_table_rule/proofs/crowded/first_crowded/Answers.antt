@@ -1,6 +1,6 @@
 -- The first slot above the capacity is the first interval that is crowded.
-use Prim.Native.Nat.{ℕ, _+_, _≤_, _<_}
-use mathlib.Core.Path.{_≡_, refl}
+use Prim.Native.Nat.{ℕ, _≤_, _<_}
+use mathlib.Core.Path.{refl}
 use mathlib.Core.Logic.{inl, inr}
 use mathlib.Core.List.{List}
 use native.Mathlib.Omega.{arith}
@@ -11,7 +11,7 @@ use Rattle.std.specs.Options.{Cases, mapped}
 use Rattle.std.proofs.shelf.Tests.{cases-lt, cases-eq}
 use Rattle.model.specs.Sheets.{Sheet, horizon}
 use Rattle.model.specs.Rules.{Named}
-use Rattle.model.specs.TimeTable.{Crowded, usage}
+use Rattle.model.specs.TimeTable.{Crowded}
 use Rattle.rules.specs.declared.slots.Slot.{Slot}
 use Rattle.time_table_rule.specs.Lines.{sheet, Usage-line}
 use Rattle.time_table_rule.specs.Shown.{told}

@@ -1,10 +1,10 @@
 -- A slot with room is seen, and one without moves the start past it.
-use Prim.Native.Nat.{ℕ, _+_, _-_, _≤_, _<_}
+use Prim.Native.Nat.{ℕ, _+_, _-_, _<_}
 use mathlib.Core.Path.{_≡_, sym, subst}
 use mathlib.Core.Logic.{inr}
 use native.Mathlib.Omega.{arith}
 use lib.ListN.{getD}
-use Rattle.model.specs.Sheets.{Sheet, Sound, count, entry, horizon}
+use Rattle.model.specs.Sheets.{Sheet, count, entry, horizon}
 use Rattle.model.specs.TimeTable.{fixed-at, usage, usage-of-others}
 use Rattle.timetable.proofs.RuleT.{usage-split}
 use Rattle.time_table_rule.specs.Lines.{sheet}

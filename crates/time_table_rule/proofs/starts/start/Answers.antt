@@ -1,8 +1,8 @@
 -- Where the highest usage leaves room, the release has room.
-use Prim.Native.Nat.{ℕ, _+_, _≤_, _<_}
+use Prim.Native.Nat.{_<_}
 use mathlib.Core.Logic.{inl}
 use native.Mathlib.Omega.{arith}
-use Rattle.model.specs.Sheets.{entry, horizon}
+use Rattle.model.specs.Sheets.{horizon}
 use Rattle.timetable.proofs.RuleT.{stays-T}
 use Rattle.time_table_rule.specs.Lines.{sheet}
 use Rattle.time_table_rule.proofs.starts.start.Needs as need

@@ -1,5 +1,5 @@
 -- Each start is the first room of its entry.
-use Prim.Native.Nat.{ℕ, _+_, _≤_, _<_}
+use Prim.Native.Nat.{_<_}
 use mathlib.Core.Path.{_≡_}
 use native.Mathlib.Omega.{arith}
 use lib.ListN.{length, length-set}
@@ -21,8 +21,7 @@ loop-k-again c =
     let xs = c .loop-k .starts in
     let here = c .start .result in
     let (long, each) = c .loop-k .inv in
-    let lt : k < length xs = omega (arith, c .pre .few) in
-    (
+    let lt : k < length xs = omega (arith, c .pre .few) in (
       omega (arith, length-set xs k here),
       fill-more (λ i n. meaning-T .earliest s i ≡ Some n) xs k here lt each (start-is-T s (c .pre) k (omega arith) here (c .start .ensures)),
     )

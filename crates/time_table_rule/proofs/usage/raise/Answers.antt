@@ -1,5 +1,5 @@
 -- A range that begins past its end raises nothing.
-use Prim.Native.Nat.{ℕ, _≤_, _<_, max, _+_}
+use Prim.Native.Nat.{ℕ, _≤_, max, _+_}
 use mathlib.Core.Path.{_≡_, ap, _∙_}
 use mathlib.Core.Bool.{cond, _&&_}
 use native.Mathlib.Omega.{arith}

@@ -1,14 +1,13 @@
 -- The line begins with zeros, and each entry raises its fixed part.
-use Prim.Native.Nat.{ℕ, zero, suc, _+_, _*_, _≤_, _<_}
+use Prim.Native.Nat.{ℕ, zero, suc, _<_}
 use mathlib.Core.Path.{_≡_, refl, sym, _∙_}
 use native.Mathlib.Omega.{arith}
-use lib.ListN.{length, getD, replicate}
-use Rattle.model.specs.Total.{total}
-use Rattle.model.specs.Sheets.{Sheet, count, entry, blank, horizon, capacity-max}
+use lib.ListN.{getD, replicate}
+use Rattle.model.specs.Sheets.{count, entry, blank, capacity-max}
 use Rattle.model.specs.TimeTable.{fixed-at}
 use Rattle.model.proofs.Sums.{total-none, total-more}
 use Rattle.time_table_rule.specs.Lines.{sheet}
-use Rattle.time_table_rule.proofs.Rooms.{fixed-most, used-small}
+use Rattle.time_table_rule.proofs.Rooms.{used-small}
 use Rattle.time_table_rule.proofs.usage.usage_line.Needs as need
 
 zeros : (n k : ℕ) → _≡_ {A = ℕ} (getD (replicate n 0) k 0) 0
