@@ -1,30 +1,35 @@
 // Passes over the candidates of a sheet.
-ghost use Prim.Native.Nat.{ℕ, _<_, _≤_};
+ghost use Prim.Native.Nat.{ℕ, _-_, _<_, _≤_};
 ghost use mathlib.Core.List.{[], _∷_};
 ghost use mathlib.Core.Path.{_≡_};
 ghost use lib.ListN.{length, getD};
 ghost use Rattle.model.specs.Sheets.{Sound, Sound-entry, entry, blank, rows-max};
-ghost use Rattle.model.specs.Energy.{Start-point, End-point};
+ghost use Rattle.model.specs.Energy.{Start-point, End-point, energy};
 ghost use Rattle.shift.specs.Meaning.{from-start, to-end, made-by};
 ghost use Rattle.shift_rule.specs.Forced.{sheet-of};
+ghost use Rattle.shift_rule.specs.Ramps.{Low, climbed};
 ghost use Rattle.shift_rule.specs.Found.{Right, Accounted, Onward, All-candidates, All-accounted};
+use crate::climbs::{ramps_from, ramps_to};
+use crate::ramps::Ramps;
 use crate::surveys::Survey;
 use crate::visits::visit;
 use model::entries::Entry;
 
 // Accounts for the intervals from t1 to each end point of an entry, and to the partner of t1 in its window.
-fn from_to(capacity: u16, entries: &[Entry], reach: u32, t1: u16, e: Entry, found: &mut Survey)
+fn from_to(capacity: u16, entries: &[Entry], ramps: &Ramps, reach: u32, t1: u16, e: Entry, found: &mut Survey)
     requires sound { ⌜ Sound (sheet-of capacity (now entries)) ⌝ }
+    requires low { ⌜ Low (length (now entries)) (now ramps) ⌝ }
+    requires energies { ⌜ ((t : ℕ) → t1 < t → climbed (length (now entries)) (now ramps) (t - t1) ≡ energy (sheet-of capacity (now entries)) t1 t) ⌝ }
     requires fine { ⌜ Sound-entry capacity e ⌝ }
     requires right { ⌜ Right (sheet-of capacity (now entries)) (now found) ⌝ }
     requires candidates { ⌜ All-candidates (sheet-of capacity (now entries)) (from-start t1 e) ⌝ }
     ensures onward { λ _. ⌜ Onward (sheet-of capacity (now (entries .entry))) (now (found .entry)) (now (found .exit)) ⌝ }
     ensures accounted { λ _. ⌜ All-accounted (sheet-of capacity (now (entries .entry))) reach (now (found .exit)) (from-start t1 e) ⌝ }
 {
-    visit(capacity, entries, reach, t1, e.deadline, found);
-    visit(capacity, entries, reach, t1, e.release + e.duration, found);
-    visit(capacity, entries, reach, t1, e.deadline - e.duration, found);
-    visit(capacity, entries, reach, t1, (e.release + e.deadline).saturating_sub(t1), found);
+    visit(capacity, entries, ramps, reach, t1, e.deadline, found);
+    visit(capacity, entries, ramps, reach, t1, e.release + e.duration, found);
+    visit(capacity, entries, ramps, reach, t1, e.deadline - e.duration, found);
+    visit(capacity, entries, ramps, reach, t1, (e.release + e.deadline).saturating_sub(t1), found);
 }
 
 // The slot whose partner in the window of an entry is t2; t2 itself where it would lie before slot 0.
@@ -37,15 +42,17 @@ fn partner(capacity: u16, t2: u16, e: Entry) -> u16
 }
 
 // Accounts for the interval from the partner of t2 in the window of an entry to t2.
-fn to_from(capacity: u16, entries: &[Entry], reach: u32, t2: u16, e: Entry, found: &mut Survey)
+fn to_from(capacity: u16, entries: &[Entry], ramps: &Ramps, reach: u32, t2: u16, e: Entry, found: &mut Survey)
     requires sound { ⌜ Sound (sheet-of capacity (now entries)) ⌝ }
+    requires low { ⌜ Low (length (now entries)) (now ramps) ⌝ }
+    requires energies { ⌜ ((t : ℕ) → t < t2 → climbed (length (now entries)) (now ramps) (t2 - t) ≡ energy (sheet-of capacity (now entries)) t t2) ⌝ }
     requires fine { ⌜ Sound-entry capacity e ⌝ }
     requires right { ⌜ Right (sheet-of capacity (now entries)) (now found) ⌝ }
     requires candidates { ⌜ All-candidates (sheet-of capacity (now entries)) (to-end t2 e ∷ []) ⌝ }
     ensures onward { λ _. ⌜ Onward (sheet-of capacity (now (entries .entry))) (now (found .entry)) (now (found .exit)) ⌝ }
     ensures accounted { λ _. ⌜ Accounted (sheet-of capacity (now (entries .entry))) reach (now (found .exit)) (to-end t2 e .t1) t2 ⌝ }
 {
-    visit(capacity, entries, reach, partner(capacity, t2, e), t2, found);
+    visit(capacity, entries, ramps, reach, partner(capacity, t2, e), t2, found);
 }
 
 // Accounts for the candidates of the first two kinds that begin at a start point.
@@ -56,8 +63,9 @@ fn from_start(capacity: u16, entries: &[Entry], reach: u32, t1: u16, found: &mut
     ensures onward { λ _. ⌜ Onward (sheet-of capacity (now (entries .entry))) (now (found .entry)) (now (found .exit)) ⌝ }
     ensures accounted { λ _. ⌜ ((j : ℕ) → j < length (now (entries .entry)) → All-accounted (sheet-of capacity (now (entries .entry))) reach (now (found .exit)) (from-start t1 (entry (sheet-of capacity (now (entries .entry))) j))) ⌝ }
 {
+    let ramps = ramps_from(capacity, entries, t1);
     for e in entries {
-        from_to(capacity, entries, reach, t1, *e, found);
+        from_to(capacity, entries, &ramps, reach, t1, *e, found);
     }
 }
 
@@ -69,8 +77,9 @@ fn to_end(capacity: u16, entries: &[Entry], reach: u32, t2: u16, found: &mut Sur
     ensures onward { λ _. ⌜ Onward (sheet-of capacity (now (entries .entry))) (now (found .entry)) (now (found .exit)) ⌝ }
     ensures accounted { λ _. ⌜ ((j : ℕ) → j < length (now (entries .entry)) → Accounted (sheet-of capacity (now (entries .entry))) reach (now (found .exit)) (to-end t2 (entry (sheet-of capacity (now (entries .entry))) j) .t1) t2) ⌝ }
 {
+    let ramps = ramps_to(capacity, entries, t2);
     for e in entries {
-        to_from(capacity, entries, reach, t2, *e, found);
+        to_from(capacity, entries, &ramps, reach, t2, *e, found);
     }
 }
 

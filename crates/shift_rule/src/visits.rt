@@ -5,9 +5,12 @@ ghost use lib.ListN.{length, getD};
 ghost use Rattle.model.specs.Sheets.{Sound, blank};
 ghost use Rattle.model.specs.Energy.{Is-interval, Candidate, energy as all-energy};
 ghost use Rattle.shift_rule.specs.Forced.{sheet-of, start-after};
+ghost use Rattle.shift_rule.specs.Ramps.{Low, climbed};
 ghost use Rattle.shift_rule.specs.Found.{Right, Accounted, Onward};
 ghost use Rattle.shift.specs.Meaning.{sooner};
-use crate::energies::{energy, forced_start};
+use crate::climbs::climbed;
+use crate::energies::forced_start;
+use crate::ramps::Ramps;
 use crate::surveys::Survey;
 use model::entries::Entry;
 use model::intervals::Interval;
@@ -51,15 +54,17 @@ fn weigh(capacity: u16, entries: &[Entry], reach: u32, t1: u16, t2: u16, energy:
     }
 }
 
-// Accounts for t1 and t2, if they are an interval.
-pub(crate) fn visit(capacity: u16, entries: &[Entry], reach: u32, t1: u16, t2: u16, found: &mut Survey)
+// Accounts for t1 and t2, if they are an interval, by ramps that have its energies.
+pub(crate) fn visit(capacity: u16, entries: &[Entry], ramps: &Ramps, reach: u32, t1: u16, t2: u16, found: &mut Survey)
     requires sound { ⌜ Sound (sheet-of capacity (now entries)) ⌝ }
+    requires low { ⌜ Low (length (now entries)) (now ramps) ⌝ }
+    requires energies { ⌜ (t1 < t2 → climbed (length (now entries)) (now ramps) (t2 - t1) ≡ all-energy (sheet-of capacity (now entries)) t1 t2) ⌝ }
     requires right { ⌜ Right (sheet-of capacity (now entries)) (now found) ⌝ }
     requires candidate { ⌜ (Is-interval t1 t2 → Candidate (sheet-of capacity (now entries)) t1 t2) ⌝ }
     ensures onward { λ _. ⌜ Onward (sheet-of capacity (now (entries .entry))) (now (found .entry)) (now (found .exit)) ⌝ }
     ensures accounted { λ _. ⌜ Accounted (sheet-of capacity (now (entries .entry))) reach (now (found .exit)) t1 t2 ⌝ }
 {
     if t1 < t2 && t2 <= SLOTS {
-        weigh(capacity, entries, reach, t1, t2, energy(capacity, entries, t1, t2), found);
+        weigh(capacity, entries, reach, t1, t2, climbed(entries.len(), ramps, t2 - t1), found);
     }
 }

@@ -8,13 +8,13 @@ use Rattle.shift_rule.proofs.Onward.{then, accounted-still}
 use Rattle.shift_rule.proofs.passes.from_to.Needs as need
 
 pub visit-requires : need.visit-requires
-visit-requires c κs = record { sound = c .pre .sound; right = c .pre .right; candidate = c .pre .candidates .0 }
+visit-requires c κs = record { sound = c .pre .sound; low = c .pre .low; energies = c .pre .energies _; right = c .pre .right; candidate = c .pre .candidates .0 }
 
 pub visit-requires-2 : need.visit-requires-2
-visit-requires-2 c κs = record { sound = c .pre .sound; right = c .visit .ensures .onward .right; candidate = c .pre .candidates .1 .0 }
+visit-requires-2 c κs = record { sound = c .pre .sound; low = c .pre .low; energies = c .pre .energies _; right = c .visit .ensures .onward .right; candidate = c .pre .candidates .1 .0 }
 
 pub visit-requires-3 : need.visit-requires-3
-visit-requires-3 c κs = record { sound = c .pre .sound; right = c .visit-2 .ensures .onward .right; candidate = c .pre .candidates .1 .1 .0 }
+visit-requires-3 c κs = record { sound = c .pre .sound; low = c .pre .low; energies = c .pre .energies _; right = c .visit-2 .ensures .onward .right; candidate = c .pre .candidates .1 .1 .0 }
 
 pub visit-requires-4 : need.visit-requires-4
 visit-requires-4 c κs =
@@ -22,6 +22,8 @@ visit-requires-4 c κs =
     let is = c .saturating-sub .ensures in
     record {
       sound = c .pre .sound;
+      low = c .pre .low;
+      energies = c .pre .energies _;
       right = c .visit-3 .ensures .onward .right;
       candidate = subst (λ (t : ℕ). Is-interval (c .args .t1) t → Candidate s (c .args .t1) t) (sym is) (c .pre .candidates .1 .1 .1 .0);
     }

@@ -12,6 +12,8 @@ visit-requires c κs =
     let t2 = c .args .t2 in
     record {
       sound = c .pre .sound;
+      low = c .pre .low;
+      energies = c .pre .energies _;
       right = c .pre .right;
       candidate = subst (λ (t : ℕ). Is-interval t t2 → Candidate s t t2) (sym (c .partner .ensures)) (c .pre .candidates .0);
     }
