@@ -4,4 +4,3 @@ pub mod Made
 pub mod Answered
 pub mod Meant
 pub mod Climbing
-pub mod Standing

@@ -1,13 +1,13 @@
 // Passes over the candidates of a sheet.
-ghost use Prim.Native.Nat.{ℕ, _-_, _<_, _≤_};
+ghost use Prim.Native.Nat.{ℕ, _<_, _≤_};
 ghost use mathlib.Core.List.{[], _∷_};
 ghost use mathlib.Core.Path.{_≡_};
 ghost use lib.ListN.{length, getD};
 ghost use Rattle.model.specs.Sheets.{Sound, Sound-entry, entry, blank, rows-max};
-ghost use Rattle.model.specs.Energy.{Start-point, End-point, energy};
+ghost use Rattle.model.specs.Energy.{Start-point, End-point};
 ghost use Rattle.shift.specs.Meaning.{from-start, to-end, made-by};
 ghost use Rattle.shift_rule.specs.Forced.{sheet-of};
-ghost use Rattle.shift_rule.specs.Ramps.{Low, climbed};
+ghost use Rattle.shift_rule.specs.Ramps.{Low, From, To};
 ghost use Rattle.shift_rule.specs.Found.{Right, Accounted, Onward, All-candidates, All-accounted};
 use crate::climbs::{ramps_from, ramps_to};
 use crate::ramps::Ramps;
@@ -18,8 +18,8 @@ use model::entries::Entry;
 // Accounts for the intervals from t1 to each end point of an entry, and to the partner of t1 in its window.
 fn from_to(capacity: u16, entries: &[Entry], ramps: &Ramps, reach: u32, t1: u16, e: Entry, found: &mut Survey)
     requires sound { ⌜ Sound (sheet-of capacity (now entries)) ⌝ }
-    requires low { ⌜ Low (length (now entries)) (now ramps) ⌝ }
-    requires energies { ⌜ ((t : ℕ) → t1 < t → climbed (length (now entries)) (now ramps) (t - t1) ≡ energy (sheet-of capacity (now entries)) t1 t) ⌝ }
+    requires low { ⌜ Low (now ramps) ⌝ }
+    requires energies { ⌜ From (sheet-of capacity (now entries)) t1 (now ramps) ⌝ }
     requires fine { ⌜ Sound-entry capacity e ⌝ }
     requires right { ⌜ Right (sheet-of capacity (now entries)) (now found) ⌝ }
     requires candidates { ⌜ All-candidates (sheet-of capacity (now entries)) (from-start t1 e) ⌝ }
@@ -44,8 +44,8 @@ fn partner(capacity: u16, t2: u16, e: Entry) -> u16
 // Accounts for the interval from the partner of t2 in the window of an entry to t2.
 fn to_from(capacity: u16, entries: &[Entry], ramps: &Ramps, reach: u32, t2: u16, e: Entry, found: &mut Survey)
     requires sound { ⌜ Sound (sheet-of capacity (now entries)) ⌝ }
-    requires low { ⌜ Low (length (now entries)) (now ramps) ⌝ }
-    requires energies { ⌜ ((t : ℕ) → t < t2 → climbed (length (now entries)) (now ramps) (t2 - t) ≡ energy (sheet-of capacity (now entries)) t t2) ⌝ }
+    requires low { ⌜ Low (now ramps) ⌝ }
+    requires energies { ⌜ To (sheet-of capacity (now entries)) t2 (now ramps) ⌝ }
     requires fine { ⌜ Sound-entry capacity e ⌝ }
     requires right { ⌜ Right (sheet-of capacity (now entries)) (now found) ⌝ }
     requires candidates { ⌜ All-candidates (sheet-of capacity (now entries)) (to-end t2 e ∷ []) ⌝ }

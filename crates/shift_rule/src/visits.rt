@@ -57,14 +57,14 @@ fn weigh(capacity: u16, entries: &[Entry], reach: u32, t1: u16, t2: u16, energy:
 // Accounts for t1 and t2, if they are an interval, by ramps that have its energies.
 pub(crate) fn visit(capacity: u16, entries: &[Entry], ramps: &Ramps, reach: u32, t1: u16, t2: u16, found: &mut Survey)
     requires sound { ⌜ Sound (sheet-of capacity (now entries)) ⌝ }
-    requires low { ⌜ Low (length (now entries)) (now ramps) ⌝ }
-    requires energies { ⌜ (t1 < t2 → climbed (length (now entries)) (now ramps) (t2 - t1) ≡ all-energy (sheet-of capacity (now entries)) t1 t2) ⌝ }
+    requires low { ⌜ Low (now ramps) ⌝ }
+    requires energies { ⌜ (t1 < t2 → climbed (now ramps) (t2 - t1) ≡ all-energy (sheet-of capacity (now entries)) t1 t2) ⌝ }
     requires right { ⌜ Right (sheet-of capacity (now entries)) (now found) ⌝ }
     requires candidate { ⌜ (Is-interval t1 t2 → Candidate (sheet-of capacity (now entries)) t1 t2) ⌝ }
     ensures onward { λ _. ⌜ Onward (sheet-of capacity (now (entries .entry))) (now (found .entry)) (now (found .exit)) ⌝ }
     ensures accounted { λ _. ⌜ Accounted (sheet-of capacity (now (entries .entry))) reach (now (found .exit)) t1 t2 ⌝ }
 {
     if t1 < t2 && t2 <= SLOTS {
-        weigh(capacity, entries, reach, t1, t2, climbed(entries.len(), ramps, t2 - t1), found);
+        weigh(capacity, entries, reach, t1, t2, climbed(ramps, t2 - t1), found);
     }
 }

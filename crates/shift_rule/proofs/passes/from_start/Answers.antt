@@ -7,7 +7,6 @@ use Rattle.shift.specs.Meaning.{from-start}
 use Rattle.shift.proofs.Listed.{start-made}
 use Rattle.shift_rule.specs.Forced.{sheet-of}
 use Rattle.shift_rule.specs.Found.{All-accounted}
-use Rattle.shift_rule.proofs.Climbing.{low-from, climbed-from}
 use Rattle.shift_rule.proofs.Onward.{still, then, all-still}
 use Rattle.shift_rule.proofs.passes.from_start.Needs as need
 
@@ -22,8 +21,8 @@ from-to-requires c κs =
     let i = c .loop-e .e-index in
     record {
       sound = c .pre .sound;
-      low = low-from s (c .pre .sound) (c .args .t1) (c .ramps-from-ramps .result) (c .ramps-from-ramps .ensures);
-      energies = climbed-from s (c .pre .sound) (c .args .t1) (c .ramps-from-ramps .result) (c .ramps-from-ramps .ensures);
+      low = c .ramps-from-ramps .ensures .low;
+      energies = c .ramps-from-ramps .ensures .energies;
       fine = c .pre .sound .each i (c .loop-e-test .taken);
       right = c .loop-e .inv .0 .right;
       candidates = start-made s (c .args .t1) (c .pre .point) i (c .loop-e-test .taken);

@@ -7,7 +7,6 @@ use Rattle.shift.specs.Meaning.{to-end}
 use Rattle.shift.proofs.Listed.{end-made}
 use Rattle.shift_rule.specs.Forced.{sheet-of}
 use Rattle.shift_rule.specs.Found.{Accounted}
-use Rattle.shift_rule.proofs.Climbing.{low-to, climbed-to}
 use Rattle.shift_rule.proofs.Onward.{still, then, accounted-still}
 use Rattle.shift_rule.proofs.passes.to_end.Needs as need
 
@@ -22,8 +21,8 @@ to-from-requires c κs =
     let i = c .loop-e .e-index in
     record {
       sound = c .pre .sound;
-      low = low-to s (c .pre .sound) (c .args .t2) (c .ramps-to-ramps .result) (c .ramps-to-ramps .ensures);
-      energies = climbed-to s (c .pre .sound) (c .args .t2) (c .ramps-to-ramps .result) (c .ramps-to-ramps .ensures);
+      low = c .ramps-to-ramps .ensures .low;
+      energies = c .ramps-to-ramps .ensures .energies;
       fine = c .pre .sound .each i (c .loop-e-test .taken);
       right = c .loop-e .inv .0 .right;
       candidates = (end-made s (c .args .t2) (c .pre .point) i (c .loop-e-test .taken), tt);
