@@ -38,6 +38,17 @@ pub climbed-none : (r : Ramps) → r .count ≡ 0 → (far : ℕ) → climbed r 
 unfolding climbed
 climbed-none r e far = ap (λ (n : ℕ). total n (climb r far)) e ∙ total-none (climb r far)
 
+pub low-none : (r : Ramps) → r .count ≡ 0 → (length (r .offsets) ≡ rows-max) × (length (r .lengths) ≡ rows-max) × (length (r .demands) ≡ rows-max) →
+    r .top ≡ 0 → Low r
+low-none r e many z =
+    record {
+      few = omega arith;
+      places = many;
+      summed = omega arith;
+      topped = λ far. omega (arith, climbed-none r e far);
+      low = λ k l. absurd (omega arith);
+    }
+
 pub climbed-is : (r : Ramps) (far : ℕ) → climbed r far ≡ total (r .count) (climb r far)
 unfolding climbed
 climbed-is r far = refl
@@ -48,6 +59,7 @@ module _ (r : Ramps) (low : Low r) (room : r .count < rows-max) (offset long dem
   more =
       record {
         count = r .count + 1;
+        top = r .top + demand * long;
         offsets = set (r .offsets) (r .count) offset;
         lengths = set (r .lengths) (r .count) long;
         demands = set (r .demands) (r .count) demand;
@@ -80,6 +92,10 @@ module _ (r : Ramps) (low : Low r) (room : r .count < rows-max) (offset long dem
       let (a, b, d) = low .places in
       record {
         few = omega arith;
+        summed = omega (arith, low .summed);
+        topped = λ far.
+            let less : min (far - offset) long ≤ long = omega arith in
+            omega (arith, climbed-more far, low .topped far, mul-le-mul-left demand less);
         places = (length-set (r .offsets) (r .count) offset ∙ a, length-set (r .lengths) (r .count) long ∙ b, length-set (r .demands) (r .count) demand ∙ d);
         low = λ k l. elim (cases-lt k (r .count)) [
           | inl under ↦

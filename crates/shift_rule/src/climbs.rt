@@ -13,7 +13,7 @@ fn flat() -> Ramps
     ensures low { λ r. ⌜ Low r ⌝ }
     ensures none { λ r. ⌜ r .count ≡ 0 ⌝ }
 {
-    Ramps { count: 0, offsets: [0; 64], lengths: [0; 64], demands: [0; 64] }
+    Ramps { count: 0, top: 0, offsets: [0; 64], lengths: [0; 64], demands: [0; 64] }
 }
 
 // Adds a ramp, unless it rises nowhere.
@@ -33,6 +33,7 @@ fn push(ramps: &mut Ramps, offset: u16, length: u16, demand: u16)
     ramps.lengths[place] = length;
     ramps.demands[place] = demand;
     ramps.count = place + 1;
+    ramps.top += demand as u32 * length as u32;
 }
 
 // The ramps of the intervals that begin at t1.

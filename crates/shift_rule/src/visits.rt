@@ -1,6 +1,7 @@
 // What one interval adds to what was found.
 ghost use Prim.Native.Nat.{ℕ, _+_, _-_, _*_, _<_, _≤_, max};
 ghost use mathlib.Core.Path.{_≡_};
+ghost use mathlib.Core.Bool.{false};
 ghost use lib.ListN.{length, getD};
 ghost use Rattle.model.specs.Sheets.{Sound, blank};
 ghost use Rattle.model.specs.Energy.{Is-interval, Candidate, energy as all-energy};
@@ -54,6 +55,14 @@ fn weigh(capacity: u16, entries: &[Entry], reach: u32, t1: u16, t2: u16, energy:
     }
 }
 
+// Whether the slack at a distance can be less than `reach`, as far as the top of the ramps tells.
+fn near(capacity: u16, ramps: &Ramps, reach: u32, far: u16) -> bool
+    ensures { λ r. ⌜ (r ≡ false → now (ramps .entry) .top + reach ≤ capacity * far) ⌝ }
+{
+    let room = capacity as u32 * far as u32;
+    room < ramps.top || room - ramps.top < reach
+}
+
 // Accounts for t1 and t2, if they are an interval, by ramps that have its energies.
 pub(crate) fn visit(capacity: u16, entries: &[Entry], ramps: &Ramps, reach: u32, t1: u16, t2: u16, found: &mut Survey)
     requires sound { ⌜ Sound (sheet-of capacity (now entries)) ⌝ }
@@ -64,7 +73,10 @@ pub(crate) fn visit(capacity: u16, entries: &[Entry], ramps: &Ramps, reach: u32,
     ensures onward { λ _. ⌜ Onward (sheet-of capacity (now (entries .entry))) (now (found .entry)) (now (found .exit)) ⌝ }
     ensures accounted { λ _. ⌜ Accounted (sheet-of capacity (now (entries .entry))) reach (now (found .exit)) t1 t2 ⌝ }
 {
-    if t1 < t2 && t2 <= SLOTS {
+    if t1 >= t2 || t2 > SLOTS {
+        return;
+    }
+    if near(capacity, ramps, reach, t2 - t1) {
         weigh(capacity, entries, reach, t1, t2, climbed(ramps, t2 - t1), found);
     }
 }
