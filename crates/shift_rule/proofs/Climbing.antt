@@ -128,7 +128,7 @@ added-more s offset long i r w a o l eo el h far =
     omega (arith, h far, a far, total-more (λ k. entry s k .demand * min (far - offset (entry s k)) (long (entry s k))) i)
 
 module _ (s : Sheet) (sound : Sound s) (offset long : Entry → ℕ) (r : Ramps) (added : Added s offset long (count s) r) (t1 t2 : ℕ)
-  (is : (e : Entry) → e .release + e .duration ≤ e .deadline → min ((t2 - t1) - offset e) (long e) ≡ held e t1 t2) where
+    (is : (e : Entry) → e .release + e .duration ≤ e .deadline → min ((t2 - t1) - offset e) (long e) ≡ held e t1 t2) where
   all-energies : climbed r (t2 - t1) ≡ energy s t1 t2
   all-energies =
       added (t2 - t1)

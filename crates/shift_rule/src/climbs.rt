@@ -4,7 +4,8 @@ ghost use mathlib.Core.Path.{_≡_};
 ghost use Rattle.model.specs.Sheets.{Sound, rows-max};
 ghost use Rattle.shift_rule.specs.Forced.{sheet-of};
 ghost use Rattle.shift_rule.specs.Ramps.{From, To, Low, climbed as on-ramps};
-use crate::energies::{left_part, right_part};
+use crate::energies::left_part;
+use crate::energies::right_part;
 use crate::ramps::Ramps;
 use model::entries::Entry;
 
@@ -13,7 +14,13 @@ fn flat() -> Ramps
     ensures low { λ r. ⌜ Low r ⌝ }
     ensures none { λ r. ⌜ r .count ≡ 0 ⌝ }
 {
-    Ramps { count: 0, top: 0, offsets: [0; 64], lengths: [0; 64], demands: [0; 64] }
+    Ramps {
+        count: 0,
+        top: 0,
+        offsets: [0; 64],
+        lengths: [0; 64],
+        demands: [0; 64],
+    }
 }
 
 // Adds a ramp, unless it rises nowhere.
@@ -44,7 +51,12 @@ pub(crate) fn ramps_from(capacity: u16, entries: &[Entry], t1: u16) -> Ramps
 {
     let mut ramps = flat();
     for e in entries {
-        push(&mut ramps, (e.deadline - e.duration).saturating_sub(t1), left_part(*e, t1), e.demand);
+        push(
+            &mut ramps,
+            (e.deadline - e.duration).saturating_sub(t1),
+            left_part(*e, t1),
+            e.demand,
+        );
     }
     ramps
 }
@@ -57,7 +69,12 @@ pub(crate) fn ramps_to(capacity: u16, entries: &[Entry], t2: u16) -> Ramps
 {
     let mut ramps = flat();
     for e in entries {
-        push(&mut ramps, t2.saturating_sub(e.release + e.duration), right_part(*e, t2), e.demand);
+        push(
+            &mut ramps,
+            t2.saturating_sub(e.release + e.duration),
+            right_part(*e, t2),
+            e.demand,
+        );
     }
     ramps
 }
@@ -69,7 +86,8 @@ pub(crate) fn climbed(ramps: &Ramps, far: u16) -> u32
 {
     let mut sum: u32 = 0;
     for k in 0..ramps.count {
-        sum += ramps.demands[k] as u32 * far.saturating_sub(ramps.offsets[k]).min(ramps.lengths[k]) as u32;
+        sum += ramps.demands[k] as u32
+            * far.saturating_sub(ramps.offsets[k]).min(ramps.lengths[k]) as u32;
     }
     sum
 }

@@ -9,14 +9,23 @@ ghost use Rattle.shift.specs.Meaning.{from-start, to-end, made-by};
 ghost use Rattle.shift_rule.specs.Forced.{sheet-of};
 ghost use Rattle.shift_rule.specs.Ramps.{Low, From, To};
 ghost use Rattle.shift_rule.specs.Found.{Right, Accounted, Onward, All-candidates, All-accounted};
-use crate::climbs::{ramps_from, ramps_to};
+use crate::climbs::ramps_from;
+use crate::climbs::ramps_to;
 use crate::ramps::Ramps;
 use crate::surveys::Survey;
 use crate::visits::visit;
 use model::entries::Entry;
 
 // Accounts for the intervals from t1 to each end point of an entry, and to the partner of t1 in its window.
-fn from_to(capacity: u16, entries: &[Entry], ramps: &Ramps, reach: u32, t1: u16, e: Entry, found: &mut Survey)
+fn from_to(
+    capacity: u16,
+    entries: &[Entry],
+    ramps: &Ramps,
+    reach: u32,
+    t1: u16,
+    e: Entry,
+    found: &mut Survey,
+)
     requires sound { ⌜ Sound (sheet-of capacity (now entries)) ⌝ }
     requires low { ⌜ Low (now ramps) ⌝ }
     requires energies { ⌜ From (sheet-of capacity (now entries)) t1 (now ramps) ⌝ }
@@ -26,10 +35,13 @@ fn from_to(capacity: u16, entries: &[Entry], ramps: &Ramps, reach: u32, t1: u16,
     ensures onward { λ _. ⌜ Onward (sheet-of capacity (now (entries .entry))) (now (found .entry)) (now (found .exit)) ⌝ }
     ensures accounted { λ _. ⌜ All-accounted (sheet-of capacity (now (entries .entry))) reach (now (found .exit)) (from-start t1 e) ⌝ }
 {
+    let early_end = e.release + e.duration;
+    let late_start = e.deadline - e.duration;
+    let opposite = (e.release + e.deadline).saturating_sub(t1);
     visit(capacity, entries, ramps, reach, t1, e.deadline, found);
-    visit(capacity, entries, ramps, reach, t1, e.release + e.duration, found);
-    visit(capacity, entries, ramps, reach, t1, e.deadline - e.duration, found);
-    visit(capacity, entries, ramps, reach, t1, (e.release + e.deadline).saturating_sub(t1), found);
+    visit(capacity, entries, ramps, reach, t1, early_end, found);
+    visit(capacity, entries, ramps, reach, t1, late_start, found);
+    visit(capacity, entries, ramps, reach, t1, opposite, found);
 }
 
 // The slot whose partner in the window of an entry is t2; t2 itself where it would lie before slot 0.
@@ -42,7 +54,15 @@ fn partner(capacity: u16, t2: u16, e: Entry) -> u16
 }
 
 // Accounts for the interval from the partner of t2 in the window of an entry to t2.
-fn to_from(capacity: u16, entries: &[Entry], ramps: &Ramps, reach: u32, t2: u16, e: Entry, found: &mut Survey)
+fn to_from(
+    capacity: u16,
+    entries: &[Entry],
+    ramps: &Ramps,
+    reach: u32,
+    t2: u16,
+    e: Entry,
+    found: &mut Survey,
+)
     requires sound { ⌜ Sound (sheet-of capacity (now entries)) ⌝ }
     requires low { ⌜ Low (now ramps) ⌝ }
     requires energies { ⌜ To (sheet-of capacity (now entries)) t2 (now ramps) ⌝ }
@@ -52,7 +72,8 @@ fn to_from(capacity: u16, entries: &[Entry], ramps: &Ramps, reach: u32, t2: u16,
     ensures onward { λ _. ⌜ Onward (sheet-of capacity (now (entries .entry))) (now (found .entry)) (now (found .exit)) ⌝ }
     ensures accounted { λ _. ⌜ Accounted (sheet-of capacity (now (entries .entry))) reach (now (found .exit)) (to-end t2 e .t1) t2 ⌝ }
 {
-    visit(capacity, entries, ramps, reach, partner(capacity, t2, e), t2, found);
+    let t1 = partner(capacity, t2, e);
+    visit(capacity, entries, ramps, reach, t1, t2, found);
 }
 
 // Accounts for the candidates of the first two kinds that begin at a start point.
@@ -121,7 +142,10 @@ pub(crate) fn survey(capacity: u16, entries: &[Entry], reach: u32) -> Survey
     ensures right { λ r. ⌜ Right (sheet-of capacity (now (entries .entry))) r ⌝ }
     ensures accounted { λ r. ⌜ ((i j : ℕ) → i < length (now (entries .entry)) → j < length (now (entries .entry)) → All-accounted (sheet-of capacity (now (entries .entry))) reach r (made-by (entry (sheet-of capacity (now (entries .entry))) i) (entry (sheet-of capacity (now (entries .entry))) j))) ⌝ }
 {
-    let mut found = Survey { first: None, starts: releases(entries) };
+    let mut found = Survey {
+        first: None,
+        starts: releases(entries),
+    };
     for i in 0..entries.len() {
         around(capacity, entries, reach, i, &mut found);
     }

@@ -39,7 +39,15 @@ fn raise(capacity: u16, entries: &[Entry], t1: u16, t2: u16, slack: u32, starts:
 }
 
 // Accounts for a candidate by the energies of all entries in it.
-fn weigh(capacity: u16, entries: &[Entry], reach: u32, t1: u16, t2: u16, energy: u32, found: &mut Survey)
+fn weigh(
+    capacity: u16,
+    entries: &[Entry],
+    reach: u32,
+    t1: u16,
+    t2: u16,
+    energy: u32,
+    found: &mut Survey,
+)
     requires sound { ⌜ Sound (sheet-of capacity (now entries)) ⌝ }
     requires right { ⌜ Right (sheet-of capacity (now entries)) (now found) ⌝ }
     requires candidate { ⌜ Candidate (sheet-of capacity (now entries)) t1 t2 ⌝ }
@@ -64,7 +72,15 @@ fn near(capacity: u16, ramps: &Ramps, reach: u32, far: u16) -> bool
 }
 
 // Accounts for t1 and t2, if they are an interval, by ramps that have its energies.
-pub(crate) fn visit(capacity: u16, entries: &[Entry], ramps: &Ramps, reach: u32, t1: u16, t2: u16, found: &mut Survey)
+pub(crate) fn visit(
+    capacity: u16,
+    entries: &[Entry],
+    ramps: &Ramps,
+    reach: u32,
+    t1: u16,
+    t2: u16,
+    found: &mut Survey,
+)
     requires sound { ⌜ Sound (sheet-of capacity (now entries)) ⌝ }
     requires low { ⌜ Low (now ramps) ⌝ }
     requires energies { ⌜ (t1 < t2 → climbed (now ramps) (t2 - t1) ≡ all-energy (sheet-of capacity (now entries)) t1 t2) ⌝ }
@@ -77,6 +93,7 @@ pub(crate) fn visit(capacity: u16, entries: &[Entry], ramps: &Ramps, reach: u32,
         return;
     }
     if near(capacity, ramps, reach, t2 - t1) {
-        weigh(capacity, entries, reach, t1, t2, climbed(ramps, t2 - t1), found);
+        let energy = climbed(ramps, t2 - t1);
+        weigh(capacity, entries, reach, t1, t2, energy, found);
     }
 }

@@ -12,8 +12,7 @@ use Rattle.shift_rule.proofs.climbs.ramps_from.Needs as need
 pub loop-e-holds : need.loop-e-holds
 loop-e-holds c =
     let s = sheet-of (c .args .capacity) (c .args .entries .now) in
-    let t1 = c .args .t1 in
-    (
+    let t1 = c .args .t1 in (
       c .flat-ramps .ensures .low,
       omega (arith, c .flat-ramps .ensures .none),
       added-none s (λ (e : Entry). (e .deadline - e .duration) - t1) (λ (e : Entry). left-part e t1) (c .flat-ramps .result) (c .flat-ramps .ensures .none),
@@ -34,12 +33,11 @@ pub loop-e-again : need.loop-e-again
 loop-e-again c =
     let s = sheet-of (c .args .capacity) (c .args .entries .now) in
     let t1 = c .args .t1 in
-    let i = c .loop-e .e-index in
-    (
+    let i = c .loop-e .e-index in (
       c .push .ensures .low,
       omega (arith, c .push .ensures .count, c .loop-e .inv .1),
       added-more s (λ (e : Entry). (e .deadline - e .duration) - t1) (λ (e : Entry). left-part e t1) i (c .loop-e .ramps) (c .push .last .ramps) (c .loop-e .inv .2) (c .saturating-sub .result) (c .left-part .result)
-      (c .saturating-sub .ensures) (c .left-part .ensures) (c .push .ensures .climbs),
+          (c .saturating-sub .ensures) (c .left-part .ensures) (c .push .ensures .climbs),
     )
 
 pub returns : need.returns

@@ -32,10 +32,9 @@ pub loop-e-again : need.loop-e-again
 loop-e-again c =
     let s = sheet-of (c .args .capacity) (c .args .entries .now) in
     let w = c .from-to .last .found in
-    let on = c .from-to .ensures .onward in
-    (
+    let on = c .from-to .ensures .onward in (
       then s (c .args .found .now) (c .loop-e .found) w (c .loop-e .inv .0) on,
       below-more (λ j. All-accounted s (c .args .reach) w (from-start (c .args .t1) (entry s j))) (c .loop-e .e-index)
-      (λ j l. all-still s (c .args .reach) (c .loop-e .found) w on (from-start (c .args .t1) (entry s j)) (c .loop-e .inv .1 j l))
-      (c .from-to .ensures .accounted),
+          (λ j l. all-still s (c .args .reach) (c .loop-e .found) w on (from-start (c .args .t1) (entry s j)) (c .loop-e .inv .1 j l))
+          (c .from-to .ensures .accounted),
     )

@@ -19,7 +19,7 @@ visit-requires-3 c κs = record { sound = c .pre .sound; low = c .pre .low; ener
 pub visit-requires-4 : need.visit-requires-4
 visit-requires-4 c κs =
     let s = sheet-of (c .args .capacity) (c .args .entries .now) in
-    let is = c .saturating-sub .ensures in
+    let is = c .saturating-sub-opposite .ensures in
     record {
       sound = c .pre .sound;
       low = c .pre .low;
@@ -50,7 +50,7 @@ returns c =
           accounted-still s reach v2 v4 on24 t1 (e .release + e .duration) (c .visit-2 .ensures .accounted),
           (
             accounted-still s reach v3 v4 on34 t1 (e .deadline - e .duration) (c .visit-3 .ensures .accounted),
-            (subst (λ (t : ℕ). Accounted s reach v4 t1 t) (c .saturating-sub .ensures) (c .visit-4 .ensures .accounted), tt),
+            (subst (λ (t : ℕ). Accounted s reach v4 t1 t) (c .saturating-sub-opposite .ensures) (c .visit-4 .ensures .accounted), tt),
           ),
         ),
       );

@@ -14,7 +14,7 @@ weigh-requires c κs =
       sound = c .pre .sound;
       right = c .pre .right;
       candidate = c .pre .candidate (record { ordered = c .if-t1-t2 .left; inside = c .if-t2-gt-SLOTS .left });
-      energy = c .climbed .ensures ∙ c .pre .energies (c .if-t1-t2 .left);
+      energy = c .climbed-energy .ensures ∙ c .pre .energies (c .if-t1-t2 .left);
     }
 
 pub returns-else-near : need.returns-else-near
