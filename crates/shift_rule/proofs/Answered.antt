@@ -30,7 +30,7 @@ right-before s starts many each =
     }
 
 module _ (s : Sheet) (reach : ℕ) (v : Survey) (right : Right s v)
-  (all : (i j : ℕ) → i < count s → j < count s → All-accounted s reach v (made-by (entry s i) (entry s j))) where
+    (all : (i j : ℕ) → i < count s → j < count s → All-accounted s reach v (made-by (entry s i) (entry s j))) where
   -- what is accounted for has each thing that follows from it
   on-pairs : (P : ℕ → ℕ → Type 0) → ((t1 t2 : ℕ) → Accounted s reach v t1 t2 → P t1 t2) → On-pairs s P
   on-pairs P f a b la lb =

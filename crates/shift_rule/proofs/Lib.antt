@@ -1,6 +1,6 @@
-pub mod Sizes
 pub mod Weighed
 pub mod Onward
 pub mod Made
 pub mod Answered
 pub mod Meant
+pub mod Climbing

@@ -105,14 +105,15 @@ module _ (s : Sheet) (v : Survey) (right : Right s v) (reach t1 t2 : ℕ) (c : C
               let (a, b) = and-parts (ltb t2 (x .deadline)) (ltb 0 (lack-beside x t1 t2 slack)) yes′ in
               let before : t2 < x .deadline = ltb-true _ _ a in
               let some′ = ltb-true 0 (lack-beside x t1 t2 slack) b in
-              let short : 0 < lack s k t1 t2 = omega (arith, same-lack k l) in
-              (t2 + ceiling (lack s k t1 t2) (x .demand),
-               record { t1 = t1; t2 = t2; candidate = c; closes = before; short = short; past = refl },
-               e ∙ after-forced k l before short)
+              let short : 0 < lack s k t1 t2 = omega (arith, same-lack k l) in (
+                t2 + ceiling (lack s k t1 t2) (x .demand),
+                record { t1 = t1; t2 = t2; candidate = c; closes = before; short = short; past = refl },
+                e ∙ after-forced k l before short,
+              )
         ]
 
     module _ (starts : List ℕ) (many : length starts ≡ rows-max)
-      (raised : (k : ℕ) → k < count s → getD starts k 0 ≡ max (start-in v k) (start-after (entry s k) t1 t2 slack)) where
+        (raised : (k : ℕ) → k < count s → getD starts k 0 ≡ max (start-in v k) (start-after (entry s k) t1 t2 slack)) where
       reached-more : (k : ℕ) → k < count s → Reached s k (getD starts k 0)
       reached-more k l =
           let old = right .starts k l in

@@ -6,7 +6,8 @@ ghost use Rattle.std.specs.declared.option.Option.the-variants.{Some};
 ghost use Rattle.model.specs.Sheets.{Sound, work, blank};
 ghost use Rattle.shift.specs.Meaning.{meaning-S};
 ghost use Rattle.shift_rule.specs.Forced.{sheet-of};
-use crate::passes::{releases, survey};
+use crate::passes::releases;
+use crate::passes::survey;
 use model::entries::Entry;
 use model::intervals::Interval;
 

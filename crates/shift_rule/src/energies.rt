@@ -1,20 +1,20 @@
-// Energies of entries in an interval, and the starts that an interval forces.
-ghost use Prim.Native.Nat.{ℕ, _+_, _<_, _≤_};
+// The energy of an entry in an interval, and the start that an interval forces on it.
+ghost use Prim.Native.Nat.{_+_, _≤_};
 ghost use mathlib.Core.Path.{_≡_};
-ghost use Rattle.model.specs.Sheets.{Sound, Sound-entry};
-ghost use Rattle.model.specs.Energy.{left-part, right-part, energy-of, energy, ceiling};
-ghost use Rattle.shift_rule.specs.Forced.{sheet-of, lack-beside, start-after};
+ghost use Rattle.model.specs.Sheets.{Sound-entry};
+ghost use Rattle.model.specs.Energy.{left-part, right-part, energy-of, ceiling};
+ghost use Rattle.shift_rule.specs.Forced.{lack-beside, start-after};
 use model::entries::Entry;
 
 // The slots that an entry runs from t1 on where it starts as early as it can.
-fn left_part(e: Entry, t1: u16) -> u16
+pub(crate) fn left_part(e: Entry, t1: u16) -> u16
     ensures { λ r. ⌜ r ≡ left-part e t1 ⌝ }
 {
     e.duration.saturating_sub(t1.saturating_sub(e.release))
 }
 
 // The slots that an entry runs before t2 where it ends as late as it can.
-fn right_part(e: Entry, t2: u16) -> u16
+pub(crate) fn right_part(e: Entry, t2: u16) -> u16
     ensures { λ r. ⌜ r ≡ right-part e t2 ⌝ }
 {
     e.duration.saturating_sub(e.deadline.saturating_sub(t2))
@@ -31,25 +31,12 @@ fn energy_of(e: Entry, t1: u16, t2: u16) -> u32
     e.demand as u32 * held as u32
 }
 
-// The energies of all entries in the slots from t1 to before t2.
-pub(crate) fn energy(capacity: u16, entries: &[Entry], t1: u16, t2: u16) -> u32
-    requires { ⌜ Sound (sheet-of capacity (now entries)) ⌝ }
-    ensures { λ r. ⌜ r ≡ energy (sheet-of capacity (now (entries .entry))) t1 t2 ⌝ }
-{
-    let mut sum: u32 = 0;
-    for e in entries {
-        sum += energy_of(*e, t1, t2);
-    }
-    sum
-}
-
 // What an interval with this slack lacks where the entry starts as early as it can.
 fn lack_beside(e: Entry, t1: u16, t2: u16, slack: u32) -> u32
     ensures { λ r. ⌜ r ≡ lack-beside e t1 t2 slack ⌝ }
 {
     let early = t2.saturating_sub(t1).min(left_part(e, t1));
-    let held = early.min(right_part(e, t2));
-    (e.demand as u32 * (early - held) as u32).saturating_sub(slack)
+    (e.demand as u32 * early as u32 - energy_of(e, t1, t2)).saturating_sub(slack)
 }
 
 // The quotient rounded up.

@@ -1,7 +1,9 @@
 // S, the shift rule, run: one energy sum for each candidate, from which evidence and every earliest start follow.
+mod answers;
+mod climbs;
 mod energies;
+mod passes;
+mod ramps;
+pub mod shifts;
 mod surveys;
 mod visits;
-mod passes;
-mod answers;
-pub mod shifts;

@@ -7,24 +7,41 @@ ghost use Rattle.model.specs.Sheets.{Sound, Sound-entry, entry, blank, rows-max
 ghost use Rattle.model.specs.Energy.{Start-point, End-point};
 ghost use Rattle.shift.specs.Meaning.{from-start, to-end, made-by};
 ghost use Rattle.shift_rule.specs.Forced.{sheet-of};
+ghost use Rattle.shift_rule.specs.Ramps.{Low, From, To};
 ghost use Rattle.shift_rule.specs.Found.{Right, Accounted, Onward, All-candidates, All-accounted};
+use crate::climbs::ramps_from;
+use crate::climbs::ramps_to;
+use crate::ramps::Ramps;
 use crate::surveys::Survey;
 use crate::visits::visit;
 use model::entries::Entry;
 
 // Accounts for the intervals from t1 to each end point of an entry, and to the partner of t1 in its window.
-fn from_to(capacity: u16, entries: &[Entry], reach: u32, t1: u16, e: Entry, found: &mut Survey)
+fn from_to(
+    capacity: u16,
+    entries: &[Entry],
+    ramps: &Ramps,
+    reach: u32,
+    t1: u16,
+    e: Entry,
+    found: &mut Survey,
+)
     requires sound { ⌜ Sound (sheet-of capacity (now entries)) ⌝ }
+    requires low { ⌜ Low (now ramps) ⌝ }
+    requires energies { ⌜ From (sheet-of capacity (now entries)) t1 (now ramps) ⌝ }
     requires fine { ⌜ Sound-entry capacity e ⌝ }
     requires right { ⌜ Right (sheet-of capacity (now entries)) (now found) ⌝ }
     requires candidates { ⌜ All-candidates (sheet-of capacity (now entries)) (from-start t1 e) ⌝ }
     ensures onward { λ _. ⌜ Onward (sheet-of capacity (now (entries .entry))) (now (found .entry)) (now (found .exit)) ⌝ }
     ensures accounted { λ _. ⌜ All-accounted (sheet-of capacity (now (entries .entry))) reach (now (found .exit)) (from-start t1 e) ⌝ }
 {
-    visit(capacity, entries, reach, t1, e.deadline, found);
-    visit(capacity, entries, reach, t1, e.release + e.duration, found);
-    visit(capacity, entries, reach, t1, e.deadline - e.duration, found);
-    visit(capacity, entries, reach, t1, (e.release + e.deadline).saturating_sub(t1), found);
+    let early_end = e.release + e.duration;
+    let late_start = e.deadline - e.duration;
+    let opposite = (e.release + e.deadline).saturating_sub(t1);
+    visit(capacity, entries, ramps, reach, t1, e.deadline, found);
+    visit(capacity, entries, ramps, reach, t1, early_end, found);
+    visit(capacity, entries, ramps, reach, t1, late_start, found);
+    visit(capacity, entries, ramps, reach, t1, opposite, found);
 }
 
 // The slot whose partner in the window of an entry is t2; t2 itself where it would lie before slot 0.
@@ -37,15 +54,26 @@ fn partner(capacity: u16, t2: u16, e: Entry) -> u16
 }
 
 // Accounts for the interval from the partner of t2 in the window of an entry to t2.
-fn to_from(capacity: u16, entries: &[Entry], reach: u32, t2: u16, e: Entry, found: &mut Survey)
+fn to_from(
+    capacity: u16,
+    entries: &[Entry],
+    ramps: &Ramps,
+    reach: u32,
+    t2: u16,
+    e: Entry,
+    found: &mut Survey,
+)
     requires sound { ⌜ Sound (sheet-of capacity (now entries)) ⌝ }
+    requires low { ⌜ Low (now ramps) ⌝ }
+    requires energies { ⌜ To (sheet-of capacity (now entries)) t2 (now ramps) ⌝ }
     requires fine { ⌜ Sound-entry capacity e ⌝ }
     requires right { ⌜ Right (sheet-of capacity (now entries)) (now found) ⌝ }
     requires candidates { ⌜ All-candidates (sheet-of capacity (now entries)) (to-end t2 e ∷ []) ⌝ }
     ensures onward { λ _. ⌜ Onward (sheet-of capacity (now (entries .entry))) (now (found .entry)) (now (found .exit)) ⌝ }
     ensures accounted { λ _. ⌜ Accounted (sheet-of capacity (now (entries .entry))) reach (now (found .exit)) (to-end t2 e .t1) t2 ⌝ }
 {
-    visit(capacity, entries, reach, partner(capacity, t2, e), t2, found);
+    let t1 = partner(capacity, t2, e);
+    visit(capacity, entries, ramps, reach, t1, t2, found);
 }
 
 // Accounts for the candidates of the first two kinds that begin at a start point.
@@ -56,8 +84,9 @@ fn from_start(capacity: u16, entries: &[Entry], reach: u32, t1: u16, found: &mut
     ensures onward { λ _. ⌜ Onward (sheet-of capacity (now (entries .entry))) (now (found .entry)) (now (found .exit)) ⌝ }
     ensures accounted { λ _. ⌜ ((j : ℕ) → j < length (now (entries .entry)) → All-accounted (sheet-of capacity (now (entries .entry))) reach (now (found .exit)) (from-start t1 (entry (sheet-of capacity (now (entries .entry))) j))) ⌝ }
 {
+    let ramps = ramps_from(capacity, entries, t1);
     for e in entries {
-        from_to(capacity, entries, reach, t1, *e, found);
+        from_to(capacity, entries, &ramps, reach, t1, *e, found);
     }
 }
 
@@ -69,8 +98,9 @@ fn to_end(capacity: u16, entries: &[Entry], reach: u32, t2: u16, found: &mut Sur
     ensures onward { λ _. ⌜ Onward (sheet-of capacity (now (entries .entry))) (now (found .entry)) (now (found .exit)) ⌝ }
     ensures accounted { λ _. ⌜ ((j : ℕ) → j < length (now (entries .entry)) → Accounted (sheet-of capacity (now (entries .entry))) reach (now (found .exit)) (to-end t2 (entry (sheet-of capacity (now (entries .entry))) j) .t1) t2) ⌝ }
 {
+    let ramps = ramps_to(capacity, entries, t2);
     for e in entries {
-        to_from(capacity, entries, reach, t2, *e, found);
+        to_from(capacity, entries, &ramps, reach, t2, *e, found);
     }
 }
 
@@ -112,7 +142,10 @@ pub(crate) fn survey(capacity: u16, entries: &[Entry], reach: u32) -> Survey
     ensures right { λ r. ⌜ Right (sheet-of capacity (now (entries .entry))) r ⌝ }
     ensures accounted { λ r. ⌜ ((i j : ℕ) → i < length (now (entries .entry)) → j < length (now (entries .entry)) → All-accounted (sheet-of capacity (now (entries .entry))) reach r (made-by (entry (sheet-of capacity (now (entries .entry))) i) (entry (sheet-of capacity (now (entries .entry))) j))) ⌝ }
 {
-    let mut found = Survey { first: None, starts: releases(entries) };
+    let mut found = Survey {
+        first: None,
+        starts: releases(entries),
+    };
     for i in 0..entries.len() {
         around(capacity, entries, reach, i, &mut found);
     }

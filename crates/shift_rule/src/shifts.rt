@@ -1,7 +1,8 @@
 // S as a rule.
 ghost use Rattle.shift.specs.Meaning.{meaning-S, first-negative};
 ghost use Rattle.shift.proofs.RuleS.{is-S, lawful-S};
-use crate::answers::{earliest_starts, first_negative};
+use crate::answers::earliest_starts;
+use crate::answers::first_negative;
 use model::intervals::Interval;
 use rules::evidence::IntervalTells;
 use rules::rule::Rule;
@@ -39,7 +40,11 @@ pub impl Rule for Shift as ShiftRule {
         let list = list(sheet);
         let entries = list.entries();
         let starts = earliest_starts(sheet.capacity(), entries);
-        if place < entries.len() { Some(starts[place]) } else { None }
+        if place < entries.len() {
+            Some(starts[place])
+        } else {
+            None
+        }
     }
 
     fn earliest_all<S: Sheet>(&self, sheet: &S) -> [u16; 64] {

@@ -8,20 +8,22 @@ use Rattle.shift_rule.proofs.Onward.{then, accounted-still}
 use Rattle.shift_rule.proofs.passes.from_to.Needs as need
 
 pub visit-requires : need.visit-requires
-visit-requires c κs = record { sound = c .pre .sound; right = c .pre .right; candidate = c .pre .candidates .0 }
+visit-requires c κs = record { sound = c .pre .sound; low = c .pre .low; energies = c .pre .energies _; right = c .pre .right; candidate = c .pre .candidates .0 }
 
 pub visit-requires-2 : need.visit-requires-2
-visit-requires-2 c κs = record { sound = c .pre .sound; right = c .visit .ensures .onward .right; candidate = c .pre .candidates .1 .0 }
+visit-requires-2 c κs = record { sound = c .pre .sound; low = c .pre .low; energies = c .pre .energies _; right = c .visit .ensures .onward .right; candidate = c .pre .candidates .1 .0 }
 
 pub visit-requires-3 : need.visit-requires-3
-visit-requires-3 c κs = record { sound = c .pre .sound; right = c .visit-2 .ensures .onward .right; candidate = c .pre .candidates .1 .1 .0 }
+visit-requires-3 c κs = record { sound = c .pre .sound; low = c .pre .low; energies = c .pre .energies _; right = c .visit-2 .ensures .onward .right; candidate = c .pre .candidates .1 .1 .0 }
 
 pub visit-requires-4 : need.visit-requires-4
 visit-requires-4 c κs =
     let s = sheet-of (c .args .capacity) (c .args .entries .now) in
-    let is = c .saturating-sub .ensures in
+    let is = c .saturating-sub-opposite .ensures in
     record {
       sound = c .pre .sound;
+      low = c .pre .low;
+      energies = c .pre .energies _;
       right = c .visit-3 .ensures .onward .right;
       candidate = subst (λ (t : ℕ). Is-interval (c .args .t1) t → Candidate s (c .args .t1) t) (sym is) (c .pre .candidates .1 .1 .1 .0);
     }
@@ -48,7 +50,7 @@ returns c =
           accounted-still s reach v2 v4 on24 t1 (e .release + e .duration) (c .visit-2 .ensures .accounted),
           (
             accounted-still s reach v3 v4 on34 t1 (e .deadline - e .duration) (c .visit-3 .ensures .accounted),
-            (subst (λ (t : ℕ). Accounted s reach v4 t1 t) (c .saturating-sub .ensures) (c .visit-4 .ensures .accounted), tt),
+            (subst (λ (t : ℕ). Accounted s reach v4 t1 t) (c .saturating-sub-opposite .ensures) (c .visit-4 .ensures .accounted), tt),
           ),
         ),
       );

@@ -23,8 +23,7 @@ loop-i-again c =
     let s = sheet-of (c .args .capacity) (c .args .entries .now) in
     let reach = c .args .reach in
     let w = c .around .last .found in
-    let on = c .around .ensures .onward in
-    (
+    let on = c .around .ensures .onward in (
       on .right,
       λ i j l m.
           below-more (λ i. All-accounted s reach w (made-by (entry s i) (entry s j))) (c .loop-i .i)

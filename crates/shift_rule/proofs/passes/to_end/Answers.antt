@@ -21,6 +21,8 @@ to-from-requires c κs =
     let i = c .loop-e .e-index in
     record {
       sound = c .pre .sound;
+      low = c .ramps-to-ramps .ensures .low;
+      energies = c .ramps-to-ramps .ensures .energies;
       fine = c .pre .sound .each i (c .loop-e-test .taken);
       right = c .loop-e .inv .0 .right;
       candidates = (end-made s (c .args .t2) (c .pre .point) i (c .loop-e-test .taken), tt);
@@ -31,10 +33,9 @@ loop-e-again c =
     let s = sheet-of (c .args .capacity) (c .args .entries .now) in
     let t2 = c .args .t2 in
     let w = c .to-from .last .found in
-    let on = c .to-from .ensures .onward in
-    (
+    let on = c .to-from .ensures .onward in (
       then s (c .args .found .now) (c .loop-e .found) w (c .loop-e .inv .0) on,
       below-more (λ j. Accounted s (c .args .reach) w (to-end t2 (entry s j) .t1) t2) (c .loop-e .e-index)
-      (λ j l. accounted-still s (c .args .reach) (c .loop-e .found) w on (to-end t2 (entry s j) .t1) t2 (c .loop-e .inv .1 j l))
-      (c .to-from .ensures .accounted),
+          (λ j l. accounted-still s (c .args .reach) (c .loop-e .found) w on (to-end t2 (entry s j) .t1) t2 (c .loop-e .inv .1 j l))
+          (c .to-from .ensures .accounted),
     )

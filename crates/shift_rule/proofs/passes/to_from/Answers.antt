@@ -12,8 +12,10 @@ visit-requires c κs =
     let t2 = c .args .t2 in
     record {
       sound = c .pre .sound;
+      low = c .pre .low;
+      energies = c .pre .energies _;
       right = c .pre .right;
-      candidate = subst (λ (t : ℕ). Is-interval t t2 → Candidate s t t2) (sym (c .partner .ensures)) (c .pre .candidates .0);
+      candidate = subst (λ (t : ℕ). Is-interval t t2 → Candidate s t t2) (sym (c .partner-t1 .ensures)) (c .pre .candidates .0);
     }
 
 pub returns : need.returns
@@ -22,5 +24,5 @@ returns c =
     let w = c .visit .last .found in
     record {
       onward = c .visit .ensures .onward;
-      accounted = subst (λ (t : ℕ). Accounted s (c .args .reach) w t (c .args .t2)) (c .partner .ensures) (c .visit .ensures .accounted);
+      accounted = subst (λ (t : ℕ). Accounted s (c .args .reach) w t (c .args .t2)) (c .partner-t1 .ensures) (c .visit .ensures .accounted);
     }

@@ -21,5 +21,5 @@ returns g c =
     let copied = c .entries .ensures ∙ c .list-list .ensures in
     let same = sheet-is (g .S·Sheet .meaning m) (c .capacity .result) (c .entries .result .now) (c .capacity .ensures) copied in
     λ k l.
-        ap (λ (s : Sheet). earliest-S s k) (sym same)
-        ∙ c .earliest-starts .ensures k (omega (arith, ap length copied))
+    ap (λ (s : Sheet). earliest-S s k) (sym same)
+    ∙ c .earliest-starts .ensures k (omega (arith, ap length copied))
