@@ -1,7 +1,7 @@
 -- From what a pass has found to the answers of S.
 use Prim.Native.Nat.{ℕ, _+_, _-_, _≤_, _<_}
-use mathlib.Core.Path.{_≡_, refl, sym, _∙_, subst}
-use mathlib.Core.Logic.{_⊎_, inl, inr}
+use mathlib.Core.Path.{_≡_, refl, subst}
+use mathlib.Core.Logic.{inl}
 use mathlib.Core.List.{List}
 use native.Mathlib.Omega.{arith}
 use lib.ListN.{length, getD}
@@ -9,10 +9,10 @@ use Rattle.std.specs.declared.option.Option.{Option}
 use Rattle.std.specs.declared.option.Option.the-variants.{Some, None}
 use Rattle.std.proofs.shelf.Elements.{all-weaker}
 use Rattle.model.specs.declared.intervals.Interval.{Interval}
-use Rattle.model.specs.Sheets.{Sheet, Sound, count, entry, work, rows-max}
+use Rattle.model.specs.Sheets.{Sheet, count, entry, work, rows-max}
 use Rattle.model.specs.Energy.{Is-interval, Negative-slack, lack, ceiling}
 use Rattle.model.specs.Rules.{Named, No-later}
-use Rattle.model.specs.Shift.{Negative-candidate, Greatest-start}
+use Rattle.model.specs.Shift.{Negative-candidate}
 use Rattle.shift.specs.Meaning.{made-by, meaning-S}
 use Rattle.shift.proofs.ByPairs.{On-pairs, some-by-pairs, none-by-pairs, start-by-pairs}
 use Rattle.shift.proofs.RuleS.{evidence-is-S, start-is-S, stays-S}

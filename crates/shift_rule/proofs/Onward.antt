@@ -1,13 +1,12 @@
 -- A pass that goes on keeps what it has found and accounted for.
-use Prim.Native.Nat.{ℕ, _≤_, _<_}
+use Prim.Native.Nat.{ℕ}
 use mathlib.Core.List.{List}
 use native.Mathlib.Omega.{arith}
-use Rattle.std.specs.shelf.Lists.{All}
 use Rattle.std.proofs.shelf.Elements.{all-weaker}
 use Rattle.model.specs.declared.intervals.Interval.{Interval}
-use Rattle.model.specs.Sheets.{Sheet, count}
+use Rattle.model.specs.Sheets.{Sheet}
 use Rattle.shift_rule.specs.declared.surveys.Survey.{Survey}
-use Rattle.shift_rule.specs.Found.{start-in, Right, Led-by, Accounted, Grows, Onward, All-accounted}
+use Rattle.shift_rule.specs.Found.{Right, Accounted, Onward, All-accounted}
 
 pub still : (s : Sheet) (v : Survey) → Right s v → Onward s v v
 still s v right = record { right = right; grows = record { first = λ t1 t2 h. h; starts = λ k l. omega arith } }

@@ -1,8 +1,8 @@
 -- What one candidate adds to what was found.
 use Prim.Native.Nat.{ℕ, _+_, _-_, _*_, _≤_, _<_, max}
 use mathlib.Core.Path.{_≡_, refl, ap, sym, _∙_}
-use mathlib.Core.Logic.{_⊎_, inl, inr}
-use mathlib.Core.Bool.{true, false, cond, _&&_}
+use mathlib.Core.Logic.{inl, inr}
+use mathlib.Core.Bool.{cond, _&&_}
 use mathlib.Core.List.{List}
 use native.Mathlib.Omega.{arith}
 use lib.Dec.{ltb}
@@ -11,7 +11,7 @@ use Rattle.std.specs.declared.option.Option.{Option}
 use Rattle.std.specs.declared.option.Option.the-variants.{Some, None}
 use Rattle.std.proofs.shelf.Tests.{cases-bool, cases-lt, and-parts, and-from, lt-ltb, ltb-true, cond-true, cond-false, cond-both}
 use Rattle.model.specs.declared.intervals.Interval.{Interval}
-use Rattle.model.specs.Sheets.{Sheet, Sound, count, entry, work, rows-max}
+use Rattle.model.specs.Sheets.{Sheet, count, entry, rows-max}
 use Rattle.model.specs.Energy.{Candidate, Negative-slack, Forced-end, energy, lack, ceiling}
 use Rattle.model.specs.Shift.{Negative-candidate}
 use Rattle.shift.specs.Meaning.{from-to, no-later?, sooner}
@@ -19,7 +19,7 @@ use Rattle.shift.proofs.Energies.{lack-by-energy, lack-none}
 use Rattle.shift.proofs.Listed.{no-later-true, no-later-false, no-later-itself, no-later-on}
 use Rattle.shift_rule.specs.declared.surveys.Survey.{Survey}
 use Rattle.shift_rule.specs.Forced.{lack-beside, start-after}
-use Rattle.shift_rule.specs.Found.{start-in, Reached, Right, Led-by, Accounted, Grows, Onward}
+use Rattle.shift_rule.specs.Found.{start-in, Reached, Right, Led-by, Accounted, Onward}
 
 -- ---- the first interval
 
@@ -40,10 +40,6 @@ sooner-has P i None here there v e = let same : i ≡ v = cc in rw same at here
 sooner-has P i (Some j) here there v e =
     let same : cond (no-later? i j) i j ≡ v = cc in
     rw same at (cond-both (no-later? i j) i j P (λ _. here) (λ _. there j refl))
-
--- nothing is lost where nothing is changed
-pub grows-same : (n : ℕ) (v : Survey) → Grows n v v
-grows-same n v = record { first = λ t1 t2 h. h; starts = λ k l. omega arith }
 
 module _ (s : Sheet) (v : Survey) (right : Right s v) (reach t1 t2 : ℕ) (c : Candidate s t1 t2) where
   -- ---- negative slack

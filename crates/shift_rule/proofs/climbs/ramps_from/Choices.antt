@@ -1,5 +1,5 @@
 -- The ramps of the entries so far.
-use Prim.Native.Nat.{_+_, _-_, _≤_}
+use Prim.Native.Nat.{_-_, _≤_}
 use Rattle.model.specs.declared.entries.Entry.{Entry}
 use Rattle.model.specs.Energy.{left-part}
 use Rattle.shift_rule.specs.Forced.{sheet-of}

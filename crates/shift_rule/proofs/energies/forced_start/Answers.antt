@@ -1,6 +1,6 @@
 -- The forced end lies within the deadline, so that it fits.
 use Prim.Native.Nat.{ℕ, _+_, _-_, _*_, _≤_, _<_, min}
-use mathlib.Core.Path.{_≡_, ap}
+use mathlib.Core.Path.{_≡_}
 use native.Mathlib.Omega.{arith}
 use Rattle.model.specs.declared.entries.Entry.{Entry}
 use Rattle.model.specs.Energy.{left-part, held, ceiling}

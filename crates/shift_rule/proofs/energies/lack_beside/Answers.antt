@@ -1,5 +1,5 @@
 -- The energy of an early start less the energy that is held anyway is the demand in the slots between.
-use Prim.Native.Nat.{ℕ, _+_, _-_, _*_, _≤_, min}
+use Prim.Native.Nat.{ℕ, _+_, _-_, _*_, min}
 use mathlib.Core.Path.{_≡_, ap}
 use native.Mathlib.Omega.{arith}
 use Rattle.model.specs.declared.entries.Entry.{Entry}

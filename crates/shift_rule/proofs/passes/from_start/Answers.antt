@@ -1,6 +1,4 @@
 -- One entry more.
-use Prim.Native.Nat.{ℕ, _<_}
-use mathlib.Core.Path.{_≡_}
 use borrow.Author.Count.{below-more}
 use Rattle.model.specs.Sheets.{entry}
 use Rattle.shift.specs.Meaning.{from-start}

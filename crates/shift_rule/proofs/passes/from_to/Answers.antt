@@ -1,6 +1,6 @@
 -- Four intervals, one after the other.
 use Prim.Native.Nat.{ℕ, _+_, _-_}
-use mathlib.Core.Path.{_≡_, sym, subst}
+use mathlib.Core.Path.{sym, subst}
 use Rattle.model.specs.Energy.{Is-interval, Candidate}
 use Rattle.shift_rule.specs.Forced.{sheet-of}
 use Rattle.shift_rule.specs.Found.{Accounted}

@@ -1,11 +1,7 @@
 -- One entry more.
-use Prim.Native.Nat.{ℕ, _<_}
-use mathlib.Core.Path.{_≡_}
-use mathlib.Core.Logic.{inl}
 use native.Mathlib.Omega.{arith}
-use lib.ListN.{length}
 use borrow.Author.Count.{below-more}
-use Rattle.model.specs.Sheets.{entry, count}
+use Rattle.model.specs.Sheets.{entry}
 use Rattle.shift.specs.Meaning.{made-by}
 use Rattle.shift_rule.specs.Forced.{sheet-of}
 use Rattle.shift_rule.specs.Found.{All-accounted}

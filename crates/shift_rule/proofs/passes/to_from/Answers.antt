@@ -1,6 +1,6 @@
 -- The partner of the end is its start.
 use Prim.Native.Nat.{ℕ}
-use mathlib.Core.Path.{_≡_, sym, subst}
+use mathlib.Core.Path.{sym, subst}
 use Rattle.model.specs.Energy.{Is-interval, Candidate}
 use Rattle.shift_rule.specs.Forced.{sheet-of}
 use Rattle.shift_rule.specs.Found.{Accounted}

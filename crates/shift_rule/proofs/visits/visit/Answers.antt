@@ -1,6 +1,6 @@
 -- What is an interval is a candidate, and where even the top of the ramps leaves enough slack, it moves nothing.
-use Prim.Native.Nat.{_+_, _-_, _*_, _≤_, _<_}
-use mathlib.Core.Path.{_≡_, _∙_}
+use Prim.Native.Nat.{_-_, _*_, _≤_}
+use mathlib.Core.Path.{_∙_}
 use native.Mathlib.Omega.{arith}
 use Rattle.model.specs.Energy.{energy}
 use Rattle.shift_rule.specs.Forced.{sheet-of}

@@ -1,12 +1,13 @@
 -- A candidate of negative slack may be the first; any other may raise starts.
-use Prim.Native.Nat.{_-_, _*_, _≤_, _<_}
+use Prim.Native.Nat.{_-_, _*_, _≤_}
 use mathlib.Core.Path.{_≡_}
 use native.Mathlib.Omega.{arith}
 use lib.ListN.{length}
 use Rattle.model.specs.Sheets.{rows-max}
 use Rattle.model.specs.Energy.{energy, Negative-slack}
 use Rattle.shift_rule.specs.Forced.{sheet-of}
-use Rattle.shift_rule.proofs.Weighed.{grows-same, sooner-onward, sooner-accounted, wide-accounted, raised-onward, raised-accounted}
+use Rattle.shift_rule.proofs.Onward.{still}
+use Rattle.shift_rule.proofs.Weighed.{sooner-onward, sooner-accounted, wide-accounted, raised-onward, raised-accounted}
 use Rattle.shift_rule.proofs.visits.weigh.Needs as need
 
 pub returns-then-room-energy : need.returns-then-room-energy
@@ -43,6 +44,6 @@ returns-else-room-energy-2 c =
     let under : energy s t1 t2 ≤ s .capacity * (t2 - t1) = omega (arith, c .pre .energy) in
     let wide : c .args .reach ≤ s .capacity * (t2 - t1) - energy s t1 t2 = omega (arith, c .pre .energy) in
     record {
-      onward = record { right = c .pre .right; grows = grows-same _ (c .args .found .now) };
+      onward = still s (c .args .found .now) (c .pre .right);
       accounted = wide-accounted s (c .args .found .now) (c .pre .right) (c .args .reach) t1 t2 (c .pre .candidate) under wide;
     }

@@ -1,9 +1,8 @@
 -- The copy of the entries is what the sheet means.
-use Prim.Native.Nat.{ℕ, _≤_}
-use mathlib.Core.Path.{_≡_, sym, _∙_, ap}
+use Prim.Native.Nat.{_≤_}
+use mathlib.Core.Path.{sym, _∙_, ap}
 use native.Mathlib.Omega.{arith}
 use lib.ListN.{length}
-use Rattle.model.specs.declared.entries.Entry.{Entry}
 use Rattle.model.specs.Sheets.{Sheet, count}
 use Rattle.shift.specs.Meaning.{earliest-S}
 use Rattle.shift.proofs.RuleS.{absent-S}

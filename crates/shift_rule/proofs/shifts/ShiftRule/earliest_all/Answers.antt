@@ -1,9 +1,7 @@
 -- The copy of the entries is what the sheet means.
-use Prim.Native.Nat.{ℕ, _<_}
-use mathlib.Core.Path.{_≡_, sym, _∙_, ap}
+use mathlib.Core.Path.{sym, _∙_, ap}
 use native.Mathlib.Omega.{arith}
 use lib.ListN.{length}
-use Rattle.model.specs.declared.entries.Entry.{Entry}
 use Rattle.model.specs.Sheets.{Sheet}
 use Rattle.shift.specs.Meaning.{earliest-S}
 use Rattle.shift_rule.proofs.Meant.{sheet-is, sound-is}
