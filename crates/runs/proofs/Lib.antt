@@ -12,5 +12,4 @@ pub mod Letters
 pub mod Running
 pub mod OneRun
 pub mod Marked
-pub mod Written
 pub mod Resumed

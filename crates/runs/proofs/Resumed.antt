@@ -1,18 +1,15 @@
 -- What a loop over the rounds of a sweep has to show.
 use Prim.Native.Nat.{ℕ, _+_, _≤_}
 use mathlib.Core.Path.{_≡_, subst}
-use mathlib.Core.List.{List, [], _∷_, _++_}
+use mathlib.Core.List.{List, _++_}
 use native.Mathlib.Omega.{arith}
 use Rattle.std.specs.shelf.Lists.{All}
 use Rattle.model.specs.Rules.{Meaning, Lawful}
-use Rattle.model.specs.declared.intervals.Interval.{Interval}
-use Rattle.board.specs.declared.answers.Effect.{Effect}
 use Rattle.board.specs.declared.answers.Verdict.{Verdict}
 use Rattle.board.specs.declared.answers.Verdict.the-variants.{Settled}
 use Rattle.board.specs.declared.answers.Swept.{Swept}
 use Rattle.board.specs.Calls.{Bookings, Sound-bookings}
-use Rattle.runs.specs.Applying.{Applies}
-use Rattle.runs.specs.Sweeping.{Application, application, Goes-on, Passes, done, then, Breaks, All-quiet, settles, again, fails, Sweeps-to, spare}
+use Rattle.runs.specs.Sweeping.{Application, Passes, Breaks, All-quiet, settles, again, fails, Sweeps-to, spare}
 use Rattle.runs.proofs.Rounds.{passes-keeps, passes-less}
 use Rattle.runs.proofs.Spare.{spare-small}
 
@@ -57,10 +54,3 @@ resumes-fails rules start n b c chain v r p = r .goes v 1 c (chain, fails p)
 -- a sweep has at most 258049 rounds
 pub rounds-small : (rules : List Meaning) (start : Bookings) (n : ℕ) (b : Bookings) → Sound-bookings start → Resumes rules start n b → n ≤ 258048
 rounds-small rules start n b sound r = omega (arith, r .spent, spare-small start sound)
-
--- ---- a round of three
-
-pub three-pass : (r1 r2 r3 : Meaning) (b b1 b2 b3 : Bookings) (e1 e2 e3 : Effect Interval) → Applies r1 b e1 b1 → Applies r2 b1 e2 b2 → Applies r3 b2 e3 b3 →
-    Goes-on e1 → Goes-on e2 → Goes-on e3 →
-    Passes (r1 ∷ (r2 ∷ (r3 ∷ []))) b (application r1 b e1 ∷ (application r2 b1 e2 ∷ (application r3 b2 e3 ∷ []))) b3
-three-pass r1 r2 r3 b b1 b2 b3 e1 e2 e3 a1 a2 a3 o1 o2 o3 = then a1 o1 (then a2 o2 (then a3 o3 done))
