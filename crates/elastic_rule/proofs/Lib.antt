@@ -1,4 +1,3 @@
 mod Inserting
-mod Listed
 mod Positions
 mod Tried

@@ -14,26 +14,9 @@ use Rattle.model.specs.Energy.{work-inside, work-in}
 use Rattle.model.proofs.Sums.{total-none, total-more, total-up}
 use Rattle.elastic.specs.Pushes.{filled, Fullest}
 use Rattle.elastic_rule.specs.Orders.{By-release}
-use Rattle.elastic_rule.specs.Levels.{Bounded, Levels, Levelled, Highest, Highest-before}
+use Rattle.sheet.specs.Listed.{Bounded}
+use Rattle.elastic_rule.specs.Levels.{Levels, Levelled, Highest, Highest-before}
 use Rattle.elastic_rule.proofs.Inserting.{total-from, somewhere}
-
--- entries within the limits of a capacity are within the limits of the greatest
-pub bounded : (s : Sheet) → Sound s → Bounded (s .entries)
-bounded s sound =
-    record {
-      some-capacity = omega arith;
-      small-capacity = omega arith;
-      few = sound .few;
-      each = λ k l.
-          let e = sound .each k l in
-          record {
-            room = e .room;
-            within = e .within;
-            lasts = e .lasts;
-            asks = e .asks;
-            fits = omega (arith, e .fits, sound .small-capacity);
-          };
-    }
 
 early : (e : Entry) (t1 t2 : ℕ) → e .release < t1 → work-inside t1 t2 e ≡ 0
 early e t1 t2 l = grind (arith, tells)

@@ -10,14 +10,6 @@ use Rattle.model.specs.Sheets.{Sheet, Sound, count, entry, capacity-max}
 use Rattle.model.specs.Energy.{work-inside, work-in}
 use Rattle.elastic.specs.Pushes.{filled, Fullest}
 
--- The sheet of a capacity and entries.
-abbrev pub sheet : ℕ → List Entry → Sheet
-sheet capacity entries = record { capacity = capacity; entries = entries }
-
--- Entries within the limits of some capacity.
-abbrev pub Bounded : List Entry → Type 0
-Bounded entries = Sound (sheet capacity-max entries)
-
 -- At the place of each of the first n entries stands what is filled up to t2 from its release.
 abbrev pub Levels : Sheet → ℕ → ℕ → List ℕ → Type 0
 Levels s t2 n levels = (k : ℕ) → k < n → getD levels k 0 ≡ filled s (entry s k .release) t2

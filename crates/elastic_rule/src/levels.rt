@@ -5,7 +5,8 @@ ghost use lib.ListN.{length};
 ghost use Rattle.model.specs.Sheets.{Sound, capacity-max};
 ghost use Rattle.model.specs.Energy.{work-inside, work-in};
 ghost use Rattle.elastic_rule.specs.Orders.{Ordered};
-ghost use Rattle.elastic_rule.specs.Levels.{sheet, Bounded, Levels, Highest};
+ghost use Rattle.sheet.specs.Listed.{sheet, Bounded};
+ghost use Rattle.elastic_rule.specs.Levels.{Levels, Highest};
 use model::entries::Entry;
 
 // The work of an entry that ends by t2, else 0.

@@ -5,7 +5,7 @@ ghost use lib.ListN.{length};
 ghost use Rattle.model.specs.Sheets.{Sound};
 ghost use Rattle.model.specs.Energy.{Overfull};
 ghost use Rattle.model.specs.Rules.{Named};
-ghost use Rattle.elastic_rule.specs.Levels.{sheet};
+ghost use Rattle.sheet.specs.Listed.{sheet};
 ghost use Rattle.elastic_rule.specs.Tried.{Tried, sooner};
 ghost use Rattle.elastic_rule.specs.Orders.{Ordered};
 use crate::levels::levels;

@@ -4,7 +4,7 @@ ghost use mathlib.Core.Path.{_≡_};
 ghost use lib.ListN.{getD, length};
 ghost use Rattle.model.specs.Sheets.{Sound, entry, blank};
 ghost use Rattle.elastic.specs.Pushes.{Fullest, Pushed-by};
-ghost use Rattle.elastic_rule.specs.Levels.{sheet};
+ghost use Rattle.sheet.specs.Listed.{sheet};
 ghost use Rattle.elastic_rule.specs.Ends.{Ends};
 ghost use Rattle.elastic_rule.specs.Orders.{Ordered};
 use crate::levels::highest_levels;

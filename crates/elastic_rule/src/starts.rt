@@ -5,7 +5,7 @@ ghost use lib.ListN.{getD, length};
 ghost use Rattle.std.specs.declared.option.Option.the-variants.{Some as Found};
 ghost use Rattle.model.specs.Sheets.{Sound, horizon, blank};
 ghost use Rattle.elastic.specs.Meaning.{meaning-E};
-ghost use Rattle.elastic_rule.specs.Levels.{sheet};
+ghost use Rattle.sheet.specs.Listed.{sheet};
 use crate::overfull::first_overfull;
 use crate::pushes::ends;
 use model::entries::Entry;

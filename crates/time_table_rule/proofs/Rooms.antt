@@ -11,7 +11,7 @@ use Rattle.model.specs.Total.{total}
 use Rattle.model.specs.Sheets.{Sheet, Sound, count, entry, rows-max}
 use Rattle.model.specs.TimeTable.{fixed-at, usage-of-others, Room-at, No-room}
 use Rattle.model.proofs.Bounds.{total-most}
-use Rattle.time_table_rule.specs.Lines.{Bounded}
+use Rattle.sheet.specs.Listed.{Bounded}
 use Rattle.time_table_rule.specs.Rooms.{Seen}
 
 -- a fixed part uses no more than the demand
@@ -26,24 +26,6 @@ used-small s sound n t l =
     let less : n ≤ rows-max = omega (arith, sound .few) in
     let few : 4095 * n ≤ 4095 * rows-max = mul-le-mul-left 4095 less in
     omega arith
-
--- entries within the limits of a capacity are within the limits of the greatest
-pub bounded : (s : Sheet) → Sound s → Bounded (s .entries)
-bounded s sound =
-    record {
-      some-capacity = omega arith;
-      small-capacity = omega arith;
-      few = sound .few;
-      each = λ k l.
-          let e = sound .each k l in
-          record {
-            room = e .room;
-            within = e .within;
-            lasts = e .lasts;
-            asks = e .asks;
-            fits = omega (arith, e .fits, sound .small-capacity);
-          };
-    }
 
 module _ (s : Sheet) (k from t : ℕ) (seen : Seen s k from t) (short : t < from + entry s k .duration) where
   -- a slot with room

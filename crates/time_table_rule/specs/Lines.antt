@@ -5,16 +5,9 @@ use mathlib.Core.Logic.{_⊎_}
 use mathlib.Core.List.{List}
 use lib.ListN.{length, getD}
 use Rattle.model.specs.declared.entries.Entry.{Entry}
+use Rattle.sheet.specs.Listed.{sheet}
 use Rattle.model.specs.Sheets.{Sheet, Sound, horizon, capacity-max}
 use Rattle.model.specs.TimeTable.{usage}
-
--- The sheet of a capacity and entries.
-abbrev pub sheet : ℕ → List Entry → Sheet
-sheet capacity entries = record { capacity = capacity; entries = entries }
-
--- Entries within the limits of some capacity.
-abbrev pub Bounded : List Entry → Type 0
-Bounded entries = Sound (sheet capacity-max entries)
 
 -- The line has the usage of each slot by the fixed parts of the entries.
 pub record Usage-line (entries : List Entry) (line : List ℕ) : Type 0 where

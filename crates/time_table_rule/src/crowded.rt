@@ -6,7 +6,7 @@ ghost use Rattle.std.specs.Options.{Cases, mapped};
 ghost use Rattle.model.specs.Sheets.{Sound, horizon};
 ghost use Rattle.model.specs.Rules.{Named};
 ghost use Rattle.model.specs.TimeTable.{Crowded};
-ghost use Rattle.time_table_rule.specs.Lines.{sheet};
+ghost use Rattle.sheet.specs.Listed.{sheet};
 ghost use Rattle.time_table_rule.specs.Shown.{told};
 use crate::usage::usage_line;
 use model::entries::Entry;

@@ -4,7 +4,8 @@ ghost use mathlib.Core.Path.{_≡_};
 ghost use mathlib.Core.Bool.{cond, _&&_};
 ghost use lib.Dec.{leb, ltb};
 ghost use lib.ListN.{getD, length};
-ghost use Rattle.time_table_rule.specs.Lines.{Bounded, Usage-line, Peak};
+ghost use Rattle.sheet.specs.Listed.{Bounded};
+ghost use Rattle.time_table_rule.specs.Lines.{Usage-line, Peak};
 use model::entries::Entry;
 
 // Adds `by` in the slots from `from` to before `to`.

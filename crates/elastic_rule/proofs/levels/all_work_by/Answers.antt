@@ -6,7 +6,7 @@ use Rattle.model.specs.Sheets.{entry, count, capacity-max}
 use Rattle.model.specs.Energy.{work-inside}
 use Rattle.model.proofs.Sums.{total-none, total-more, total-up}
 use Rattle.model.proofs.Bounds.{work-in-small}
-use Rattle.elastic_rule.specs.Levels.{sheet}
+use Rattle.sheet.specs.Listed.{sheet}
 use Rattle.elastic_rule.proofs.levels.all_work_by.Needs as need
 
 pub loop-e-holds : need.loop-e-holds

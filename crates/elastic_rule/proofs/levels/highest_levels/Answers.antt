@@ -1,5 +1,5 @@
 -- Each position has the highest level up to it.
-use Rattle.elastic_rule.specs.Levels.{sheet}
+use Rattle.sheet.specs.Listed.{sheet}
 use Rattle.elastic_rule.proofs.Positions.{highest-more, highest-all}
 use Rattle.elastic_rule.proofs.levels.highest_levels.Needs as need
 

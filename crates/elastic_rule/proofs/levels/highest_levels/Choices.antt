@@ -1,5 +1,6 @@
 -- The highest levels of the positions before p stand.
-use Rattle.elastic_rule.specs.Levels.{sheet, Highest-before}
+use Rattle.sheet.specs.Listed.{sheet}
+use Rattle.elastic_rule.specs.Levels.{Highest-before}
 use Rattle.elastic_rule.proofs.levels.highest_levels.Given as given
 
 abbrev pub Inv-loop-p : given.InvT-loop-p

@@ -7,8 +7,9 @@ use native.Mathlib.Omega.{arith}
 use lib.ListN.{getD, replicate}
 use Rattle.model.specs.Sheets.{entry, horizon, capacity-max}
 use Rattle.model.proofs.Bounds.{work-in-small}
-use Rattle.elastic_rule.specs.Levels.{sheet}
-use Rattle.elastic_rule.proofs.Positions.{bounded, levelled-none, now-inside, rest-enough, levelled-more, levelled-all}
+use Rattle.sheet.specs.Listed.{sheet}
+use Rattle.sheet.proofs.Listed.{bounded}
+use Rattle.elastic_rule.proofs.Positions.{levelled-none, now-inside, rest-enough, levelled-more, levelled-all}
 use Rattle.elastic_rule.proofs.levels.levels.Needs as need
 use Rattle.elastic_rule.proofs.levels.levels.Needs.{then-e-release, else-e-release}
 

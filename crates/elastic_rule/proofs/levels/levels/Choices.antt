@@ -1,5 +1,6 @@
 -- The levels of the positions before p stand.
-use Rattle.elastic_rule.specs.Levels.{sheet, Levelled}
+use Rattle.sheet.specs.Listed.{sheet}
+use Rattle.elastic_rule.specs.Levels.{Levelled}
 use Rattle.elastic_rule.proofs.levels.levels.Given as given
 
 abbrev pub Inv-loop-p : given.InvT-loop-p

@@ -2,7 +2,7 @@
 use mathlib.Core.Path.{_≡_}
 use native.Mathlib.Omega.{arith}
 use Rattle.model.specs.Sheets.{count}
-use Rattle.elastic_rule.specs.Levels.{sheet}
+use Rattle.sheet.specs.Listed.{sheet}
 use Rattle.elastic_rule.proofs.Tried.{tried-none, tried-all}
 use Rattle.elastic_rule.proofs.overfull.first_overfull.Needs as need
 

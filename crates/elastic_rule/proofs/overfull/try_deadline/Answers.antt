@@ -10,7 +10,7 @@ use Rattle.model.specs.Sheets.{Sheet, count, entry}
 use Rattle.model.specs.Rules.{Named}
 use Rattle.elastic.specs.Pushes.{filled}
 use Rattle.elastic.proofs.Pushed.{over-filled, filled-over}
-use Rattle.elastic_rule.specs.Levels.{sheet}
+use Rattle.sheet.specs.Listed.{sheet}
 use Rattle.elastic_rule.specs.Tried.{Overfull-between, Tried}
 use Rattle.elastic_rule.proofs.Tried.{tried-over, tried-fits, tried-turn}
 use Rattle.elastic_rule.proofs.overfull.try_deadline.Needs as need

@@ -1,6 +1,6 @@
 -- The first of those tried, with the releases before i.
 use Rattle.model.specs.Rules.{Named}
-use Rattle.elastic_rule.specs.Levels.{sheet}
+use Rattle.sheet.specs.Listed.{sheet}
 use Rattle.elastic_rule.specs.Tried.{Tried}
 use Rattle.elastic_rule.proofs.overfull.try_deadline.Given as given
 

@@ -1,7 +1,7 @@
 -- The deadlines before j have pushed all entries.
 use mathlib.Core.Path.{_≡_}
 use lib.ListN.{length}
-use Rattle.elastic_rule.specs.Levels.{sheet}
+use Rattle.sheet.specs.Listed.{sheet}
 use Rattle.elastic_rule.specs.Ends.{Ends}
 use Rattle.elastic_rule.proofs.pushes.ends.Given as given
 

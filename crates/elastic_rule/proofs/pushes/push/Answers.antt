@@ -8,7 +8,7 @@ use Rattle.std.proofs.shelf.Lists.{getD-set-other}
 use Rattle.model.specs.Sheets.{count}
 use Rattle.model.proofs.Filling.{fill-more}
 use Rattle.elastic.specs.Pushes.{Pushed-by}
-use Rattle.elastic_rule.specs.Levels.{sheet}
+use Rattle.sheet.specs.Listed.{sheet}
 use Rattle.elastic_rule.proofs.pushes.push.Needs as need
 
 pub pushed-requires : need.pushed-requires

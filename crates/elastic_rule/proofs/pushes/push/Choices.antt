@@ -2,7 +2,7 @@
 use Prim.Native.Nat.{ℕ, _+_, _≤_}
 use mathlib.Core.Path.{_≡_}
 use lib.ListN.{getD}
-use Rattle.elastic_rule.specs.Levels.{sheet}
+use Rattle.sheet.specs.Listed.{sheet}
 use Rattle.elastic_rule.specs.Ends.{Ends}
 use Rattle.elastic_rule.proofs.pushes.push.Given as given
 

@@ -6,7 +6,7 @@ use Rattle.model.specs.Sheets.{Sheet, Sound, count, entry, work, horizon, capac
 use Rattle.model.proofs.Bounds.{work-small, work-in-small}
 use Rattle.elastic.specs.Pushes.{Fullest}
 use Rattle.elastic.proofs.Pushed.{pushed-past}
-use Rattle.elastic_rule.specs.Levels.{sheet}
+use Rattle.sheet.specs.Listed.{sheet}
 use Rattle.elastic_rule.proofs.pushes.pushed.Needs as need
 
 -- what is filled is small

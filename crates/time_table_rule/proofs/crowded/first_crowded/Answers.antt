@@ -13,9 +13,10 @@ use Rattle.model.specs.Sheets.{Sheet, horizon}
 use Rattle.model.specs.Rules.{Named}
 use Rattle.model.specs.TimeTable.{Crowded}
 use Rattle.rules.specs.declared.slots.Slot.{Slot}
-use Rattle.time_table_rule.specs.Lines.{sheet, Usage-line}
+use Rattle.sheet.specs.Listed.{sheet}
+use Rattle.time_table_rule.specs.Lines.{Usage-line}
 use Rattle.time_table_rule.specs.Shown.{told}
-use Rattle.time_table_rule.proofs.Rooms.{bounded}
+use Rattle.sheet.proofs.Listed.{bounded}
 use Rattle.time_table_rule.proofs.crowded.first_crowded.Needs as need
 
 named : (s : Sheet) (line : List ℕ) (o : Option Slot) → Usage-line (s .entries) line →

@@ -7,7 +7,7 @@ use lib.ListN.{getD}
 use Rattle.model.specs.Sheets.{Sheet, count, entry, horizon}
 use Rattle.model.specs.TimeTable.{fixed-at, usage, usage-of-others}
 use Rattle.timetable.proofs.RuleT.{usage-split}
-use Rattle.time_table_rule.specs.Lines.{sheet}
+use Rattle.sheet.specs.Listed.{sheet}
 use Rattle.time_table_rule.specs.Rooms.{Seen}
 use Rattle.time_table_rule.proofs.Rooms.{used-small, seen-room, seen-taken, seen-all}
 use Rattle.time_table_rule.proofs.starts.first_room.Needs as need

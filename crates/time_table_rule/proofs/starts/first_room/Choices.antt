@@ -1,5 +1,5 @@
 -- What was seen before t.
-use Rattle.time_table_rule.specs.Lines.{sheet}
+use Rattle.sheet.specs.Listed.{sheet}
 use Rattle.time_table_rule.specs.Rooms.{Seen}
 use Rattle.time_table_rule.proofs.starts.first_room.Given as given
 

@@ -4,7 +4,7 @@ use mathlib.Core.Logic.{inl}
 use native.Mathlib.Omega.{arith}
 use Rattle.model.specs.Sheets.{horizon}
 use Rattle.timetable.proofs.RuleT.{stays-T}
-use Rattle.time_table_rule.specs.Lines.{sheet}
+use Rattle.sheet.specs.Listed.{sheet}
 use Rattle.time_table_rule.proofs.starts.start.Needs as need
 
 pub returns-then-peak-capacity : need.returns-then-peak-capacity

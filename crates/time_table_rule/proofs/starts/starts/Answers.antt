@@ -7,8 +7,8 @@ use Rattle.std.specs.declared.option.Option.the-variants.{Some}
 use Rattle.model.proofs.Filling.{fill-more}
 use Rattle.timetable.specs.Meaning.{meaning-T}
 use Rattle.timetable.proofs.RuleT.{start-is-T}
-use Rattle.time_table_rule.specs.Lines.{sheet}
-use Rattle.time_table_rule.proofs.Rooms.{bounded}
+use Rattle.sheet.specs.Listed.{sheet}
+use Rattle.sheet.proofs.Listed.{bounded}
 use Rattle.time_table_rule.proofs.starts.starts.Needs as need
 
 pub usage-line-line-requires : need.usage-line-line-requires

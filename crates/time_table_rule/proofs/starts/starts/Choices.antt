@@ -4,7 +4,7 @@ use mathlib.Core.Path.{_≡_}
 use lib.ListN.{length, getD}
 use Rattle.std.specs.declared.option.Option.the-variants.{Some}
 use Rattle.timetable.specs.Meaning.{meaning-T}
-use Rattle.time_table_rule.specs.Lines.{sheet}
+use Rattle.sheet.specs.Listed.{sheet}
 use Rattle.time_table_rule.proofs.starts.starts.Given as given
 
 abbrev pub Inv-loop-k : given.InvT-loop-k

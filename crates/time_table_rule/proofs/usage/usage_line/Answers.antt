@@ -6,7 +6,7 @@ use lib.ListN.{getD, replicate}
 use Rattle.model.specs.Sheets.{count, entry, blank, capacity-max}
 use Rattle.model.specs.TimeTable.{fixed-at}
 use Rattle.model.proofs.Sums.{total-none, total-more}
-use Rattle.time_table_rule.specs.Lines.{sheet}
+use Rattle.sheet.specs.Listed.{sheet}
 use Rattle.time_table_rule.proofs.Rooms.{used-small}
 use Rattle.time_table_rule.proofs.usage.usage_line.Needs as need
 

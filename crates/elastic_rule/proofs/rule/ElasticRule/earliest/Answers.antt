@@ -5,7 +5,7 @@ use native.Mathlib.Omega.{arith}
 use lib.ListN.{length}
 use Rattle.model.specs.Sheets.{count}
 use Rattle.elastic.proofs.Law.{earliest-absent}
-use Rattle.elastic_rule.proofs.Listed.{same-sound}
+use Rattle.sheet.proofs.Listed.{same-sound}
 use Rattle.elastic_rule.proofs.rule.ElasticRule.earliest.Needs as need
 
 pub starts-requires : need.starts-requires

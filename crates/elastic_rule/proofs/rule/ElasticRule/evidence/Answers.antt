@@ -8,7 +8,7 @@ use Rattle.model.specs.Sheets.{Sheet}
 use Rattle.model.specs.Energy.{Overfull}
 use Rattle.model.specs.Rules.{Named}
 use Rattle.elastic.proofs.Law.{evidence-is}
-use Rattle.elastic_rule.proofs.Listed.{same-sheet, same-sound}
+use Rattle.sheet.proofs.Listed.{same-sheet, same-sound}
 use Rattle.elastic_rule.proofs.rule.ElasticRule.evidence.Needs as need
 
 -- an interval tells itself

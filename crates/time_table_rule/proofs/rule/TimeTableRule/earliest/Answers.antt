@@ -5,7 +5,7 @@ use native.Mathlib.Omega.{arith}
 use lib.ListN.{length}
 use Rattle.model.specs.Sheets.{count}
 use Rattle.timetable.proofs.RuleT.{absent-T}
-use Rattle.time_table_rule.proofs.Listed.{same-sound}
+use Rattle.sheet.proofs.Listed.{same-sound}
 use Rattle.time_table_rule.proofs.rule.TimeTableRule.earliest.Needs as need
 
 pub starts-requires : need.starts-requires

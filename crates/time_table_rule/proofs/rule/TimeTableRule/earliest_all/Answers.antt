@@ -1,6 +1,6 @@
 -- The starts of the listed entries are those of the sheet.
 use mathlib.Core.Path.{_∙_}
-use Rattle.time_table_rule.proofs.Listed.{same-sound}
+use Rattle.sheet.proofs.Listed.{same-sound}
 use Rattle.time_table_rule.proofs.rule.TimeTableRule.earliest_all.Needs as need
 
 pub starts-requires : need.starts-requires

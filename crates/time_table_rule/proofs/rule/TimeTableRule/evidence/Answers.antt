@@ -12,7 +12,7 @@ use Rattle.model.specs.TimeTable.{Crowded}
 use Rattle.rules.specs.declared.slots.Slot.{Slot}
 use Rattle.timetable.proofs.RuleT.{evidence-is-T}
 use Rattle.time_table_rule.specs.Shown.{told, slot-at, shown}
-use Rattle.time_table_rule.proofs.Listed.{same-sheet, same-sound}
+use Rattle.sheet.proofs.Listed.{same-sheet, same-sound}
 use Rattle.time_table_rule.proofs.rule.TimeTableRule.evidence.Needs as need
 
 -- what a slot tells shows the slot
