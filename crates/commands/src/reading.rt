@@ -1,6 +1,6 @@
 // Reading a line.
 ghost use mathlib.Core.Path.{_≡_};
-ghost use Rattle.commands.specs.Commands.{enter-of, rebook-of, named, Reads};
+ghost use Rattle.commands.specs.Commands.{build-of, enter-of, withdraw-of, rebook-of, place-of, apply-of, named, Reads};
 ghost use Rattle.commands.specs.Taking.{left};
 use board::bookings::Test;
 use crate::commands::Command;
@@ -28,4 +28,70 @@ fn rebook(mut words: Words<'_>) -> Option<Command>
     let release = words.number()?;
     let deadline = words.number()?;
     words.whole(Command::Rebook { pair, release, deadline })
+}
+
+// What the other commands are given.
+fn build(mut words: Words<'_>) -> Option<Command>
+    ensures { λ r. ⌜ r ≡ build-of (left (words .entry)) ⌝ }
+{
+    let capacity = words.number()?;
+    words.whole(Command::Build(capacity))
+}
+
+fn withdraw(mut words: Words<'_>) -> Option<Command>
+    ensures { λ r. ⌜ r ≡ withdraw-of (left (words .entry)) ⌝ }
+{
+    let pair = words.pair()?;
+    words.whole(Command::Withdraw(pair))
+}
+
+fn place(mut words: Words<'_>) -> Option<Command>
+    ensures { λ r. ⌜ r ≡ place-of (left (words .entry)) ⌝ }
+{
+    let pair = words.pair()?;
+    words.whole(Command::Place(pair))
+}
+
+fn apply(mut words: Words<'_>) -> Option<Command>
+    ensures { λ r. ⌜ r ≡ apply-of (left (words .entry)) ⌝ }
+{
+    let letter = words.letter()?;
+    words.whole(Command::Apply(letter))
+}
+
+// The command of a name.
+fn command(name: &str, mut words: Words<'_>) -> Option<Command>
+    ensures { λ r. ⌜ r ≡ named (now (name .entry)) (left (words .entry)) ⌝ }
+{
+    match name {
+        "build" => build(words),
+        "enter" => enter(words),
+        "withdraw" => withdraw(words),
+        "rebook" => rebook(words),
+        "place" => place(words),
+        "apply" => apply(words),
+        "sweep" => words.whole(Command::Sweep),
+        "show" => words.whole(Command::Show),
+        _ => None,
+    }
+}
+
+// What a line of bytes is, which has no end of line.
+pub fn read(line: &[u8]) -> Line
+    ensures { λ r. ⌜ Reads (now (line .entry)) r ⌝ }
+{
+    if line.len() > 0 && line[0] == b'#' {
+        return Line::Nothing;
+    }
+    let Ok(text) = from_utf8(line) else {
+        return Line::Unknown;
+    };
+    let mut words = Words { rest: text };
+    let Some(name) = words.word() else {
+        return Line::Nothing;
+    };
+    match command(name, words) {
+        Some(command) => Line::Says(command),
+        None => Line::Unknown,
+    }
 }
