@@ -1,5 +1,7 @@
 // Reading a line.
 ghost use mathlib.Core.Path.{_≡_};
+ghost use lib.ListN.{getD};
+ghost use Rattle.std.specs.Orderings.{When};
 ghost use Rattle.commands.specs.Commands.{build-of, enter-of, withdraw-of, rebook-of, place-of, apply-of, named, Reads};
 ghost use Rattle.commands.specs.Taking.{left};
 use board::bookings::Test;
@@ -76,11 +78,18 @@ fn command(name: &str, mut words: Words<'_>) -> Option<Command>
     }
 }
 
+// Whether a line begins with #.
+fn is_note(line: &[u8]) -> bool
+    ensures { λ r. ⌜ When r (getD (now (line .entry)) 0 0 ≡ 35) (¬ (getD (now (line .entry)) 0 0 ≡ 35)) ⌝ }
+{
+    line.len() > 0 && line[0] == b'#'
+}
+
 // What a line of bytes is, which has no end of line.
 pub fn read(line: &[u8]) -> Line
     ensures { λ r. ⌜ Reads (now (line .entry)) r ⌝ }
 {
-    if line.len() > 0 && line[0] == b'#' {
+    if is_note(line) {
         return Line::Nothing;
     }
     let Ok(text) = from_utf8(line) else {
