@@ -104,3 +104,13 @@ pub fn read(line: &[u8]) -> Line
         None => Line::Unknown,
     }
 }
+
+// A line without its end, if it has one.
+pub fn without_end(line: &[u8]) -> &[u8]
+    ensures { λ r. ⌜ Ends (now (line .entry)) (now r) ⌝ }
+{
+    match line {
+        [front @ .., b'\n'] => front,
+        _ => line,
+    }
+}
