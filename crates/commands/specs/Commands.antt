@@ -1,7 +1,7 @@
 -- Which command a line says.
 use Prim.Native.Nat.{ℕ}
 use mathlib.Core.Path.{_≡_}
-use mathlib.Core.List.{List, [], _∷_}
+use mathlib.Core.List.{List, [], _∷_, _++_}
 use mathlib.Core.Bool.{cond}
 use mathlib.Core.Logic.{_⊎_}
 use lib.Chars.{codes}
@@ -106,3 +106,7 @@ abbrev pub Reads : List ℕ → Line → Type 0
 Reads line Nothing = Passed-over line
 Reads line Unknown = (¬ Passed-over line) × (Utf8 line → command-of (words line) ≡ None)
 Reads line (Says command) = (¬ Passed-over line) × Utf8 line × (command-of (words line) ≡ Some command)
+
+-- A line of an input, and the line without its end: the byte 10, if it has one there.
+abbrev pub Ends : List ℕ → List ℕ → Type 0
+Ends line bare = (line ≡ bare ++ (10 ∷ [])) ⊎ ((bare ≡ line) × ((front : List ℕ) → ¬ (line ≡ front ++ (10 ∷ []))))

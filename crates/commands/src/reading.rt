@@ -2,7 +2,7 @@
 ghost use mathlib.Core.Path.{_≡_};
 ghost use lib.ListN.{getD};
 ghost use Rattle.std.specs.Orderings.{When};
-ghost use Rattle.commands.specs.Commands.{build-of, enter-of, withdraw-of, rebook-of, place-of, apply-of, named, Reads};
+ghost use Rattle.commands.specs.Commands.{build-of, enter-of, withdraw-of, rebook-of, place-of, apply-of, named, Reads, Ends};
 ghost use Rattle.commands.specs.Taking.{left};
 use board::bookings::Test;
 use crate::commands::Command;
@@ -109,8 +109,8 @@ pub fn read(line: &[u8]) -> Line
 pub fn without_end(line: &[u8]) -> &[u8]
     ensures { λ r. ⌜ Ends (now (line .entry)) (now r) ⌝ }
 {
-    match line {
-        [front @ .., b'\n'] => front,
-        _ => line,
+    match line.strip_suffix(b"\n") {
+        Some(front) => front,
+        None => line,
     }
 }

@@ -26,7 +26,7 @@ use time_table_rule::rule::TimeTable;
 use time_table_rule::rule::TimeTableRule;
 
 // Does what a command says, and writes its answer at the front of a buffer.
-fn answer(board: &mut Board, command: Command, out: &mut [u8]) -> Result<usize, Refusal> {
+fn obey(board: &mut Board, command: Command, out: &mut [u8]) -> Result<usize, Refusal> {
     match command {
         Command::Build(capacity) => reply(Reply::called(board.build(capacity)), out),
         Command::Enter(test) => reply(Reply::called(board.enter(test)), out),
@@ -39,10 +39,18 @@ fn answer(board: &mut Board, command: Command, out: &mut [u8]) -> Result<usize, 
     }
 }
 
+// Writes the answer to a line at the front of a buffer; a line that is passed over has none.
+fn answer(board: &mut Board, line: &[u8], out: &mut [u8]) -> Result<usize, Refusal> {
+    match read(line) {
+        Line::Nothing => Ok(0),
+        Line::Unknown => reply(Reply::Unknown, out),
+        Line::Says(command) => obey(board, command, out),
+    }
+}
+
 fn main(rt: LibcRuntime) -> Result<(), AnyError> {
     let heap = rt.alloc();
     let mut board = Board::new(heap)?;
-    let mut out = [0u8; 8192];
     let mut input = BufReader::new(rt.stdin());
     let mut line = Vec::new(heap);
     // Nothing says that an input ends, so the turns are counted.
@@ -51,12 +59,8 @@ fn main(rt: LibcRuntime) -> Result<(), AnyError> {
         if input.read_until(b'\n', &mut line)? == 0 {
             break;
         }
-        let written = match read(without_end(&line)) {
-            Line::Nothing => Ok(0),
-            Line::Unknown => reply(Reply::Unknown, &mut out),
-            Line::Says(command) => answer(&mut board, command, &mut out),
-        };
-        match written {
+        let mut out = [0u8; 8192];
+        match answer(&mut board, without_end(&line), &mut out) {
             Ok(n) => {
                 if n <= out.len() {
                     rt.stdout().write_all(&out[0..n])?;
