@@ -1,4 +1,11 @@
 // Reads a command a line from standard input, calls the board, and prints an answer for each.
+ghost use mathlib.Core.List.{List};
+ghost use Prim.Native.Nat.{ℕ};
+ghost use Rattle.board.specs.Held.{bookings};
+ghost use Rattle.commands.specs.Commands.{Reads};
+ghost use Rattle.commands.specs.declared.commands.Line.{Line as LineT};
+ghost use Rattle.console.specs.Console.{Obeys, Answers};
+ghost use Rattle.report.specs.Buffers.{Writes};
 use board::boards::Board;
 use board::places::place;
 use commands::commands::Command;
@@ -26,7 +33,9 @@ use time_table_rule::rule::TimeTable;
 use time_table_rule::rule::TimeTableRule;
 
 // Does what a command says, and writes its answer at the front of a buffer.
-fn obey(board: &mut Board, command: Command, out: &mut [u8]) -> Result<usize, Refusal> {
+fn obey(board: &mut Board, command: Command, out: &mut [u8]) -> Result<usize, Refusal>
+    ensures { λ r. ⌜ ((text : List ℕ) × Obeys (bookings (now (board .entry))) command text (bookings (now (board .exit))) × Writes text (now (out .entry)) r (now (out .exit))) ⌝ }
+{
     match command {
         Command::Build(capacity) => reply(Reply::called(board.build(capacity)), out),
         Command::Enter(test) => reply(Reply::called(board.enter(test)), out),
@@ -40,7 +49,9 @@ fn obey(board: &mut Board, command: Command, out: &mut [u8]) -> Result<usize, Re
 }
 
 // Writes the answer to a line at the front of a buffer; a line that is passed over has none.
-fn answer(board: &mut Board, line: &[u8], out: &mut [u8]) -> Result<usize, Refusal> {
+fn answer(board: &mut Board, line: &[u8], out: &mut [u8]) -> Result<usize, Refusal>
+    ensures { λ r. ⌜ ((said : LineT) × (text : List ℕ) × Reads (now (line .entry)) said × Answers (bookings (now (board .entry))) said text (bookings (now (board .exit))) × Writes text (now (out .entry)) r (now (out .exit))) ⌝ }
+{
     match read(line) {
         Line::Nothing => Ok(0),
         Line::Unknown => reply(Reply::Unknown, out),
