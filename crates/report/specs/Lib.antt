@@ -1,4 +1,5 @@
--- In the order of reading: the lines of a report, a text in a buffer, and what a text under work shows.
+-- In the order of reading: the lines of a report, the answers to commands, a text in a buffer, and what a text under work shows.
 pub mod Lines
+pub mod Replies
 pub mod Buffers
 pub mod Shown

@@ -16,7 +16,7 @@ use model::rows::Row;
 
 impl Text {
     // A number, and the byte after it.
-    fn figure(&mut self, n: u64, after: u8)
+    pub(crate) fn figure(&mut self, n: u64, after: u8)
         requires { ⌜ now self .len + 21 ≤ 8192 ⌝ }
         ensures text { λ _. ⌜ shown (now (self .exit)) ≡ shown (now (self .entry)) ++ (decimal n ++ (after ∷ [])) ⌝ }
         ensures len { λ _. ⌜ now (self .exit) .len ≤ now (self .entry) .len + 21 ⌝ }

@@ -3,8 +3,10 @@ ghost use mathlib.Core.Path.{_≡_};
 ghost use Rattle.board.specs.Held.{bookings};
 ghost use Rattle.report.specs.Buffers.{Writes};
 ghost use Rattle.report.specs.Lines.{board-lines, verdict-line, report-lines, fault-line};
+ghost use Rattle.report.specs.Replies.{reply-line};
 ghost use Rattle.report.specs.Shown.{shown};
 use crate::refusals::Refusal;
+use crate::replies::Reply;
 use crate::texts::Text;
 use board::answers::Swept;
 use board::boards::Board;
@@ -57,4 +59,13 @@ pub fn refusal(fault: &Fault, out: &mut [u8]) -> Result<usize, Refusal>
     let mut notice = Text::new();
     notice.fault(fault);
     copy(&notice, out)
+}
+
+// The answer to a command.
+pub fn reply(reply: Reply, out: &mut [u8]) -> Result<usize, Refusal>
+    ensures { λ r. ⌜ Writes (reply-line reply) (now (out .entry)) r (now (out .exit)) ⌝ }
+{
+    let mut answer = Text::new();
+    answer.reply(reply);
+    copy(&answer, out)
 }

@@ -1,0 +1,4 @@
+mod Parting
+mod Written
+mod Fronts
+mod Named

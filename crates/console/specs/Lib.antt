@@ -1,0 +1,2 @@
+-- What a line does to a board, and which text answers it.
+pub mod Console
