@@ -67,7 +67,6 @@ pub(crate) fn ask(rt: &LibcRuntime, board: &Board, word: &str, given: &[u32]) ->
     match (word, given) {
         ("sheet", []) => show(rt, &sheet)?,
         ("mirror", []) => show(rt, &mirror)?,
-        ("mirror of mirror", []) => show(rt, &Mirror::of(&mirror))?,
         ("cut", [place, deadline]) => show(rt, &Cut::of(&sheet, *place as usize, u16::try_from(*deadline)?))?,
         ("cut of mirror", [place, deadline]) => show(rt, &Cut::of(&mirror, *place as usize, u16::try_from(*deadline)?))?,
         _ => return Ok(false),

@@ -121,16 +121,27 @@ pub(crate) fn narrow(rt: &LibcRuntime, board: &mut Board, word: &str) -> Result<
     Ok(true)
 }
 
-// Sweeps, saves or restores, as a word says; says false if it names none of these.
+// Sweeps by the rules that a word names, in this order; says false if it names none.
+pub(crate) fn settle(rt: &LibcRuntime, session: &mut Session, word: &str) -> Result<bool, AnyError> {
+    let board = &mut session.board;
+    session.swept = match word {
+        "sweep T E S" => sweep(board, &TimeTable, &Elastic, &Shift),
+        "sweep S E T" => sweep(board, &Shift, &Elastic, &TimeTable),
+        "sweep E E E" => sweep(board, &Elastic, &Elastic, &Elastic),
+        _ => return Ok(false),
+    };
+    show_swept(rt, &session.board, session.swept)?;
+    Ok(true)
+}
+
+// Saves or restores, as a word says; says false if it says neither.
 pub(crate) fn keep(rt: &LibcRuntime, session: &mut Session, word: &str) -> Result<bool, AnyError> {
     match word {
         "save" => session.saved = session.board.save(),
         "restore" => session.board.restore(&session.saved),
-        "sweep T E S" => session.swept = sweep(&mut session.board, &TimeTable, &Elastic, &Shift),
-        "sweep S E T" => session.swept = sweep(&mut session.board, &Shift, &Elastic, &TimeTable),
-        "sweep E E E" => session.swept = sweep(&mut session.board, &Elastic, &Elastic, &Elastic),
         _ => return Ok(false),
     }
-    show_swept(rt, &session.board, session.swept)?;
+    print!(rt, "ok")?;
+    show_board(rt, &session.board)?;
     Ok(true)
 }

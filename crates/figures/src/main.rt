@@ -11,6 +11,7 @@ use board::boards::Board;
 use calling::call;
 use calling::keep;
 use calling::narrow;
+use calling::settle;
 use reporting::write;
 use sessions::Session;
 use std::alloc::Global;
@@ -33,7 +34,7 @@ fn run_line(rt: &LibcRuntime, session: &mut Session, word: &str, given: &[u32]) 
     if call(rt, board, word, given)? || narrow(rt, board, word)? || ask(rt, board, word, given)? {
         return Ok(());
     }
-    if keep(rt, session, word)? || write(rt, session, word, given)? {
+    if settle(rt, session, word)? || keep(rt, session, word)? || write(rt, session, word, given)? {
         return Ok(());
     }
     Err("an unknown word".into())
