@@ -60,15 +60,19 @@ fn show<S: Sheet>(rt: &LibcRuntime, sheet: &S) -> Result<(), AnyError> {
     Ok(())
 }
 
+// A number as a deadline; what is too great for one is far past every slot.
+fn deadline(number: u32) -> u16 {
+    u16::try_from(number).unwrap_or(u16::MAX)
+}
+
 // Asks the sheet that a word names; says false if it names none, or if the numbers are too many or too few.
 pub(crate) fn ask(rt: &LibcRuntime, board: &Board, word: &str, given: &[u32]) -> Result<bool, AnyError> {
     let sheet = present(board);
-    let mirror = Mirror::of(&sheet);
     match (word, given) {
         ("sheet", []) => show(rt, &sheet)?,
-        ("mirror", []) => show(rt, &mirror)?,
-        ("cut", [place, deadline]) => show(rt, &Cut::of(&sheet, *place as usize, u16::try_from(*deadline)?))?,
-        ("cut of mirror", [place, deadline]) => show(rt, &Cut::of(&mirror, *place as usize, u16::try_from(*deadline)?))?,
+        ("mirror", []) => show(rt, &Mirror::of(&sheet))?,
+        ("cut", [place, number]) => show(rt, &Cut::of(&sheet, *place as usize, deadline(*number)))?,
+        ("cut of mirror", [place, number]) => show(rt, &Cut::of(&Mirror::of(&sheet), *place as usize, deadline(*number)))?,
         _ => return Ok(false),
     }
     Ok(true)

@@ -9,6 +9,7 @@ use report::reports::report;
 use report::reports::verdict;
 use std::alloc::Global;
 use std::error::AnyError;
+use std::io::Write;
 
 const BUFFER: usize = 256;
 
@@ -21,25 +22,28 @@ fn bytes(heap: Global, given: &[u32]) -> Result<Vec<u8>, AnyError> {
     Ok(file)
 }
 
-// Prints an answer and the whole buffer, the end of a line as a stroke.
-fn show_buffer(rt: &LibcRuntime, answer: Result<usize, Refusal>, buffer: &[u8]) -> Result<(), AnyError> {
+// Prints an answer and the whole buffer, which then has a stroke for each end of a line.
+fn show_buffer(rt: &LibcRuntime, answer: Result<usize, Refusal>, buffer: &mut [u8]) -> Result<(), AnyError> {
     match answer {
         Ok(length) => print!(rt, "{length} ")?,
         Err(short) => print!(rt, "refused {} ", short.number())?,
     }
-    for byte in buffer {
-        let shown = if *byte == b'\n' { '/' } else { *byte as char };
-        print!(rt, "{shown}")?;
+    for byte in buffer.iter_mut() {
+        if *byte == b'\n' {
+            *byte = b'/';
+        }
     }
+    rt.stdout().write_all(buffer)?;
     println!(rt, "")?;
     Ok(())
 }
 
 // Loads a file into the board, and writes what is wrong with it; a file that is loaded leaves the buffer as it was.
-fn write_fault(board: &mut Board, file: &[u8], buffer: &mut [u8]) -> Result<usize, Refusal> {
-    match load(board, file) {
-        Ok(()) => Ok(0),
-        Err(fault) => refusal(&fault, buffer),
+fn write_fault(heap: Global, board: &mut Board, file: &[u32], buffer: &mut [u8]) -> Result<Result<usize, Refusal>, AnyError> {
+    let file = bytes(heap, file)?;
+    match load(board, file.as_slice()) {
+        Ok(()) => Ok(Ok(0)),
+        Err(fault) => Ok(refusal(&fault, buffer)),
     }
 }
 
@@ -56,10 +60,7 @@ pub(crate) fn write(rt: &LibcRuntime, session: &mut Session, word: &str, given: 
         "report" => report(&session.board, &session.swept, out),
         "listing" => listing(&session.board, out),
         "verdict" => verdict(&session.swept, out),
-        "fault" => {
-            let file = bytes(rt.alloc(), file)?;
-            write_fault(&mut session.board, file.as_slice(), out)
-        }
+        "fault" => write_fault(rt.alloc(), &mut session.board, file, out)?,
         _ => return Ok(false),
     };
     show_buffer(rt, answer, out)?;
