@@ -68,12 +68,13 @@ fn deadline(number: u32) -> u16 {
 // Asks the sheet that a word names; says false if it names none, or if the numbers are too many or too few.
 pub(crate) fn ask(rt: &LibcRuntime, board: &Board, word: &str, given: &[u32]) -> Result<bool, AnyError> {
     let sheet = present(board);
-    match (word, given) {
-        ("sheet", []) => show(rt, &sheet)?,
-        ("mirror", []) => show(rt, &Mirror::of(&sheet))?,
-        ("cut", [place, number]) => show(rt, &Cut::of(&sheet, *place as usize, deadline(*number)))?,
-        ("cut of mirror", [place, number]) => show(rt, &Cut::of(&Mirror::of(&sheet), *place as usize, deadline(*number)))?,
+    let shown = match (word, given) {
+        ("sheet", []) => show(rt, &sheet),
+        ("mirror", []) => show(rt, &Mirror::of(&sheet)),
+        ("cut", [place, number]) => show(rt, &Cut::of(&sheet, *place as usize, deadline(*number))),
+        ("cut of mirror", [place, number]) => show(rt, &Cut::of(&Mirror::of(&sheet), *place as usize, deadline(*number))),
         _ => return Ok(false),
-    }
+    };
+    shown?;
     Ok(true)
 }

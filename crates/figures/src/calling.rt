@@ -88,36 +88,38 @@ fn show_place(rt: &LibcRuntime, pair: Pair) -> Result<(), AnyError> {
 
 // Makes the call with numbers that a word names; says false if it names none, or if the numbers are too many or too few.
 pub(crate) fn call(rt: &LibcRuntime, board: &mut Board, word: &str, given: &[u32]) -> Result<bool, AnyError> {
-    match (word, given) {
-        ("build", [capacity]) => show_call(rt, board.build(*capacity))?,
+    let shown = match (word, given) {
+        ("build", [capacity]) => show_call(rt, board.build(*capacity)),
         ("enter", [profile, bearer, release, deadline, duration, demand]) => {
             let pair = Pair { profile: *profile, bearer: *bearer };
             let test = Test { pair, release: *release, deadline: *deadline, duration: *duration, demand: *demand };
-            show_call(rt, board.enter(test))?
+            show_call(rt, board.enter(test))
         }
-        ("withdraw", [profile, bearer]) => show_call(rt, board.withdraw(Pair { profile: *profile, bearer: *bearer }))?,
+        ("withdraw", [profile, bearer]) => show_call(rt, board.withdraw(Pair { profile: *profile, bearer: *bearer })),
         ("rebook", [profile, bearer, release, deadline]) => {
-            show_call(rt, board.rebook(Pair { profile: *profile, bearer: *bearer }, *release, *deadline))?
+            show_call(rt, board.rebook(Pair { profile: *profile, bearer: *bearer }, *release, *deadline))
         }
-        ("place", [profile, bearer]) => show_place(rt, Pair { profile: *profile, bearer: *bearer })?,
+        ("place", [profile, bearer]) => show_place(rt, Pair { profile: *profile, bearer: *bearer }),
         _ => return Ok(false),
-    }
+    };
+    shown?;
     Ok(true)
 }
 
 // Applies the rule that a word names, by itself or by its letter; says false if it names none.
 pub(crate) fn narrow(rt: &LibcRuntime, board: &mut Board, word: &str) -> Result<bool, AnyError> {
-    match word {
-        "rule T" => show_rule(rt, board, &TimeTable)?,
-        "rule E" => show_rule(rt, board, &Elastic)?,
-        "rule S" => show_rule(rt, board, &Shift)?,
-        "letter T" => show_letter(rt, board, 'T')?,
-        "letter E" => show_letter(rt, board, 'E')?,
-        "letter S" => show_letter(rt, board, 'S')?,
-        "letter t" => show_letter(rt, board, 't')?,
-        "letter X" => show_letter(rt, board, 'X')?,
+    let shown = match word {
+        "rule T" => show_rule(rt, board, &TimeTable),
+        "rule E" => show_rule(rt, board, &Elastic),
+        "rule S" => show_rule(rt, board, &Shift),
+        "letter T" => show_letter(rt, board, 'T'),
+        "letter E" => show_letter(rt, board, 'E'),
+        "letter S" => show_letter(rt, board, 'S'),
+        "letter t" => show_letter(rt, board, 't'),
+        "letter X" => show_letter(rt, board, 'X'),
         _ => return Ok(false),
-    }
+    };
+    shown?;
     Ok(true)
 }
 
