@@ -353,6 +353,8 @@ impl Survey<'_> {
         }
     }
 
+    /// Kept out of the loops over candidates: few come here, and the loops stay small.
+    #[inline(never)]
     fn raise(&mut self, t1: u16, t2: u16, slack: u32) {
         for (e, start) in self.entries.iter().zip(&mut self.starts) {
             if t2 < e.deadline {
