@@ -6,8 +6,8 @@
 loose     few channels asked for, wide windows: nothing moves
 tight     hidden start times fill the channels, and every window has a little room around them: rules narrow for some rounds
 overfull  windows about one interval, whose least use is one channel-slot more than the interval has; only S can tell
-slow      two long rows take all channels that immovable rows leave, and only one side of a small booking has room for both:
-          E or S takes one slot a round off their windows
+slow      two long rows take all channels that immovable rows leave, and each has room on one side only of a small booking:
+          S takes one slot a round off one window
 """
 
 import os
@@ -92,7 +92,10 @@ def overfull(count, draw):
 
 
 def slow(count, draw):
-    """The three rows that take turns, and immovable rows that together use the same channels in every slot."""
+    """Three rows, and immovable rows that together use the same channels in every slot, so that they leave the three as they were.
+
+    The three are those of most rounds in a random search among a few long rows and small bookings.
+    """
     scale, layer = 100, 40
     core = [(168, 3807, 1220, 6 * scale), (28, 3784, 1260, 6 * scale), (1350, 1362, 3, 2 * scale)]
     layers = 1 if count < 32 else 4
