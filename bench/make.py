@@ -108,7 +108,7 @@ def slow(count, draw):
 
 
 def longest():
-    """As many bytes as a file may have: 64 tests and 64 notes with the longest texts, all numbers in three groups."""
+    """As many bytes as a file that loads may have: 64 tests and 64 notes with the longest texts, all numbers in three groups."""
 
     def wide(n):
         return bytes((n & 127 | 128, n >> 7 & 127 | 128, n >> 14))
