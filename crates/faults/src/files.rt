@@ -34,7 +34,7 @@ fn write_note(file: &mut Vec<u8>) -> Result<(), AllocError> {
 }
 
 // A file of capacity 1 with so many tests, no two with the same profile, and then so many notes.
-pub fn filled(heap: Global, tests: u32, notes: u32) -> Result<Vec<u8>, AllocError> {
+pub(crate) fn filled(heap: Global, tests: u32, notes: u32) -> Result<Vec<u8>, AllocError> {
     let mut file = Vec::new(heap);
     write_number(&mut file, 1)?;
     write_number(&mut file, tests.wrapping_add(notes))?;

@@ -86,11 +86,22 @@ fn run_long(rt: &LibcRuntime, board: &mut Board) -> Result<(), AnyError> {
     Ok(())
 }
 
+// Runs as many bytes as `plan` reads at most, and one more, of a file with bytes left over: the fault is met before.
+fn run_past(rt: &LibcRuntime, board: &mut Board) -> Result<(), AnyError> {
+    let mut file = filled(rt.alloc(), 128, 0)?;
+    file.push(0)?;
+    show(rt, board, "as many bytes as plan reads", file.as_slice())?;
+    file.push(0)?;
+    show(rt, board, "one byte more", file.as_slice())?;
+    Ok(())
+}
+
 fn run(rt: &LibcRuntime) -> Result<(), AnyError> {
     let mut board = Board::new(rt.alloc())?;
     run_lines(rt, &mut board)?;
     run_fronts(rt, &mut board)?;
-    run_long(rt, &mut board)
+    run_long(rt, &mut board)?;
+    run_past(rt, &mut board)
 }
 
 fn main(rt: LibcRuntime) -> Result<(), AnyError> {
