@@ -52,10 +52,11 @@ abbrev pub whole : Command → List Word → Option Command
 whole command [] = Some command
 whole command (w ∷ ws) = None
 
--- The command that some words say: the first names it, the others are what it is given, no fewer and no more.
+-- What each command is given, no fewer words and no more. Build: a capacity.
 abbrev pub build-of : List Word → Option Command
 build-of ws = number-first ws then λ capacity. whole (Build capacity)
 
+-- Enter: a pair, a release, a deadline, a duration and a demand.
 unfoldable pub enter-of : List Word → Option Command
 enter-of ws =
     pair-first ws then λ pair ws₁.
@@ -65,9 +66,11 @@ enter-of ws =
     number-first ws₄ then λ demand.
     whole (Enter (record { pair = pair; release = release; deadline = deadline; duration = duration; demand = demand }))
 
+-- Withdraw: a pair.
 abbrev pub withdraw-of : List Word → Option Command
 withdraw-of ws = pair-first ws then λ pair. whole (Withdraw pair)
 
+-- Rebook: a pair, a release and a deadline.
 unfoldable pub rebook-of : List Word → Option Command
 rebook-of ws =
     pair-first ws then λ pair ws₁.
@@ -75,13 +78,15 @@ rebook-of ws =
     number-first ws₂ then λ deadline.
     whole (Rebook pair release deadline)
 
+-- Place: a pair.
 abbrev pub place-of : List Word → Option Command
 place-of ws = pair-first ws then λ pair. whole (Place pair)
 
+-- Apply: a letter.
 abbrev pub apply-of : List Word → Option Command
 apply-of ws = letter-first ws then λ letter. whole (Apply letter)
 
--- The first word names the command.
+-- The command of a name, given the words after it; sweep and show are given none.
 unfoldable pub named : Word → List Word → Option Command
 named name ws =
     cond (sameBytes name (codes "build")) (build-of ws)
@@ -93,6 +98,7 @@ named name ws =
     (cond (sameBytes name (codes "sweep")) (whole Sweep ws)
     (cond (sameBytes name (codes "show")) (whole Show ws) None)))))))
 
+-- The command that some words say: the first names it.
 abbrev pub command-of : List Word → Option Command
 command-of [] = None
 command-of (name ∷ ws) = named name ws
