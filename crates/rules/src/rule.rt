@@ -4,8 +4,9 @@ ghost use denote.Ref.{now};
 ghost use mathlib.Core.Path.{_≡_};
 ghost use lib.ListN.{getD, length};
 ghost use Rattle.std.specs.declared.option.Option.{Option as Maybe};
-ghost use Rattle.std.specs.declared.option.Option.the-variants.{Some};
+ghost use Rattle.std.specs.declared.option.Option.the-variants.{Some, None};
 ghost use Rattle.std.specs.Options.{mapped};
+ghost use Rattle.std.specs.Results.{Cases};
 ghost use Rattle.model.specs.Sheets.{Sheet as Meant, count};
 ghost use Rattle.model.specs.Rules.{Meaning, Proper, Refutes, Never-before};
 use crate::evidence::Tells;
@@ -52,5 +53,17 @@ pub trait Rule {
             starts[i] = self.earliest(sheet, i).unwrap_or(0);
         }
         starts
+    }
+
+    // Evidence or, where there is none, the earliest starts of all entries: both questions in one, for a rule that answers them in one pass.
+    fn judge<S: Sheet>(&self, sheet: &S) -> Result<[u16; 64], Self::Evidence>
+        ensures value { λ r. ⌜ Cases r (λ _. shows (now (self .entry)) (S·Sheet .meaning (now (sheet .entry))) ≡ None) (λ v. shows (now (self .entry)) (S·Sheet .meaning (now (sheet .entry))) ≡ Some v) ⌝ }
+        ensures told { λ r. ⌜ Cases r (λ _. means (now (self .entry)) .evidence (S·Sheet .meaning (now (sheet .entry))) ≡ None) (λ v. means (now (self .entry)) .evidence (S·Sheet .meaning (now (sheet .entry))) ≡ Some (Evidence·Tells .told v)) ⌝ }
+        ensures starts { λ r. ⌜ Cases r (λ starts. (k : ℕ) → k < count (S·Sheet .meaning (now (sheet .entry))) → means (now (self .entry)) .earliest (S·Sheet .meaning (now (sheet .entry))) k ≡ Some (getD starts k 0)) (λ _. Unit {0}) ⌝ }
+    {
+        match self.evidence(sheet) {
+            Some(evidence) => Err(evidence),
+            None => Ok(self.earliest_all(sheet)),
+        }
     }
 }

@@ -2,7 +2,8 @@
 ghost use Prim.Native.Nat.{ℕ, _<_, _≤_};
 ghost use mathlib.Core.Path.{_≡_};
 ghost use lib.ListN.{length, getD};
-ghost use Rattle.std.specs.declared.option.Option.the-variants.{Some};
+ghost use Rattle.std.specs.declared.option.Option.the-variants.{Some, None};
+ghost use Rattle.std.specs.Results.{Cases};
 ghost use Rattle.model.specs.Sheets.{Sound, work, blank};
 ghost use Rattle.shift.specs.Meaning.{meaning-S};
 ghost use Rattle.shift_rule.specs.Forced.{sheet-of};
@@ -29,6 +30,18 @@ fn greatest_work(capacity: u16, entries: &[Entry]) -> u32
         most = most.max(e.duration as u32 * e.demand as u32);
     }
     most
+}
+
+// The first candidate of negative slack or, where there is none, the earliest starts of all entries.
+pub(crate) fn judged(capacity: u16, entries: &[Entry]) -> Result<[u16; 64], Interval>
+    requires { ⌜ Sound (sheet-of capacity (now entries)) ⌝ }
+    ensures { λ r. ⌜ Cases r (λ starts. (meaning-S .evidence (sheet-of capacity (now (entries .entry))) ≡ None) × ((k : ℕ) → k < length (now (entries .entry)) → meaning-S .earliest (sheet-of capacity (now (entries .entry))) k ≡ Some (getD starts k 0))) (λ i. meaning-S .evidence (sheet-of capacity (now (entries .entry))) ≡ Some i) ⌝ }
+{
+    let found = survey(capacity, entries, greatest_work(capacity, entries));
+    match found.first {
+        Some(first) => Err(first),
+        None => Ok(found.starts),
+    }
 }
 
 // The earliest starts of all entries, at their places.

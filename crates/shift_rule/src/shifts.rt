@@ -3,6 +3,7 @@ ghost use Rattle.shift.specs.Meaning.{meaning-S, first-negative};
 ghost use Rattle.shift.proofs.RuleS.{is-S, lawful-S};
 use crate::answers::earliest_starts;
 use crate::answers::first_negative;
+use crate::answers::judged;
 use model::intervals::Interval;
 use rules::evidence::IntervalTells;
 use rules::rule::Rule;
@@ -50,5 +51,10 @@ pub impl Rule for Shift as ShiftRule {
     fn earliest_all<S: Sheet>(&self, sheet: &S) -> [u16; 64] {
         let list = list(sheet);
         earliest_starts(sheet.capacity(), list.entries())
+    }
+
+    fn judge<S: Sheet>(&self, sheet: &S) -> Result<[u16; 64], Interval> {
+        let list = list(sheet);
+        judged(sheet.capacity(), list.entries())
     }
 }

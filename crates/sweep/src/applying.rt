@@ -21,10 +21,11 @@ pub fn apply<R: Rule>(board: &mut Board, rule: &R) -> Effect<R::Evidence>
     ensures evidence { λ r. ⌜ Shows-evidence (R·Rule .shows (now (rule .entry)) (at-present (bookings (now (board .entry))))) r ⌝ }
 {
     let sheet = present(board);
-    if let Some(evidence) = rule.evidence(&sheet) {
-        return Effect::Overfull(evidence);
-    }
-    let windows = all_figures(rule, &sheet);
+    let starts = match rule.judge(&sheet) {
+        Ok(starts) => starts,
+        Err(evidence) => return Effect::Overfull(evidence),
+    };
+    let windows = all_figures(rule, &sheet, &starts);
     if let Some(row) = first_short(board.rows(), &windows) {
         return Effect::Squeezed(row);
     }

@@ -1,7 +1,8 @@
 // The two figures of each entry of a sheet.
 ghost use Prim.Native.Nat.{ℕ, _<_, _≤_};
 ghost use mathlib.Core.Path.{_≡_};
-ghost use lib.ListN.{length};
+ghost use lib.ListN.{length, getD};
+ghost use Rattle.std.specs.declared.option.Option.the-variants.{Some};
 ghost use Rattle.model.specs.Sheets.{count, entry, horizon};
 ghost use Rattle.std.specs.Options.{Cases as BySome};
 ghost use Rattle.runs.specs.Applying.{figures};
@@ -37,11 +38,11 @@ fn one_figure<S: Sheet>(sheet: &S, place: usize, start: u16, mirrored_start: u16
     }
 }
 
-// The figures of all entries, each at its place, from the windows as they stand.
-pub(crate) fn all_figures<R: Rule, S: Sheet>(rule: &R, sheet: &S) -> [Window; 64]
+// The figures of all entries, each at its place, from the windows as they stand and the earliest starts on the sheet.
+pub(crate) fn all_figures<R: Rule, S: Sheet>(rule: &R, sheet: &S, starts: &[u16; 64]) -> [Window; 64]
+    requires { ⌜ ((k : ℕ) → k < count (S·Sheet .meaning (now sheet)) → R·Rule .means (now rule) .earliest (S·Sheet .meaning (now sheet)) k ≡ Some (getD (now starts) k 0)) ⌝ }
     ensures { λ r. ⌜ ((k : ℕ) → k < count (S·Sheet .meaning (now (sheet .entry))) → window-at r k ≡ figures (R·Rule .means (now (rule .entry))) (S·Sheet .meaning (now (sheet .entry))) k) ⌝ }
 {
-    let starts = rule.earliest_all(sheet);
     let mirror = Mirror::of(sheet);
     let mirrored_starts = rule.earliest_all(&mirror);
     let mut windows = [Window { release: 0, deadline: 0 }; 64];

@@ -34,13 +34,13 @@ loop-i-again g c =
     let rule = g .R·Rule .means (c .args .rule .now) in
     let i = c .loop-i .i in
     let ends = c .earliest-all-mirrored-starts .result in
-    let starts = c .earliest-all-starts .result in
+    let starts = c .args .starts .now in
     let same : g .S·Sheet .meaning (c .of-mirror .result .below .now) ≡ s = ap (g .S·Sheet .meaning) (c .of-mirror .ensures) in
     let back = subst (λ (t : Sheet). (k : ℕ) → k < count (mirror t) → rule .earliest (mirror t) k ≡ Some (getD ends k 0)) same
         (c .earliest-all-mirrored-starts .ensures) in
     let l : i < count s = omega arith in
     let m : i < count (mirror s) = omega (arith, mirror-count s) in
     let inside : i < length (c .loop-i .windows) = omega (arith, sound .few) in
-    let here = c .one-figure .ensures ∙ figured rule s i (getD starts i 0) (getD ends i 0) l (c .earliest-all-starts .ensures i l) (back i m) in
+    let here = c .one-figure .ensures ∙ figured rule s i (getD starts i 0) (getD ends i 0) l (c .pre i l) (back i m) in
     (omega (arith, length-set (c .loop-i .windows) i (c .one-figure .result)),
      fill-on (λ k (w : Window). w ≡ figures rule s k) no-window (c .loop-i .windows) i (c .one-figure .result) inside (c .loop-i .inv .1) here)
