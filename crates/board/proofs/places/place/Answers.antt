@@ -5,16 +5,16 @@ use Rattle.board.specs.Calls.{stands, misnamed, WrongPair, profile, bearer_low, 
 use Rattle.board.proofs.Judging.{least_pair, number_small}
 use Rattle.board.proofs.places.place.Goals as goal
 
-pub returns-then-pair-gt-PROFILE-MAX : goal.returns-then-pair-gt-PROFILE-MAX
-returns-then-pair-gt-PROFILE-MAX c =
+pub returns-then-pair-gt-PROFILE_MAX : goal.returns-then-pair-gt-PROFILE_MAX
+returns-then-pair-gt-PROFILE_MAX c =
     misnamed Profile (record {
-      wrong = profile c.if-pair-gt-PROFILE-MAX.true;
+      wrong = profile c.if-pair-gt-PROFILE_MAX.true;
       least = least_pair 2 c.args.pair (λ l. omega arith) (λ l. omega arith) (λ l. omega arith);
     })
 
-pub returns-then-pair-lt-BEARER-MIN : goal.returns-then-pair-lt-BEARER-MIN
-returns-then-pair-lt-BEARER-MIN c =
-    let wrong : WrongPair c.args.pair Bearer = elim c.then-pair-lt-BEARER-MIN.either [ inl l ↦ bearer_low l | inr h ↦ bearer_high h.1 ] in
+pub returns-then-pair-lt-BEARER_MIN : goal.returns-then-pair-lt-BEARER_MIN
+returns-then-pair-lt-BEARER_MIN c =
+    let wrong : WrongPair c.args.pair Bearer = elim c.then-pair-lt-BEARER_MIN.either [ inl l ↦ bearer_low l | inr h ↦ bearer_high h.1 ] in
     misnamed Bearer (record {
       wrong = wrong;
       least = least_pair 3 c.args.pair (λ l. omega arith) (λ l. omega arith) (λ l. omega arith);

@@ -8,4 +8,4 @@ front : (xs ys zs : List Row) → ys ≡ xs → take (length xs) (ys ++ zs) ≡ 
 front xs ys zs e = ap (λ (t : List Row). take (length xs) (t ++ zs)) e ∙ take_at xs zs (length xs) refl
 
 pub returns : goal.returns
-returns c = front _ _ _ c.copy-from-slice.ensures.after
+returns c = front _ _ _ c.copy_from_slice.ensures.after

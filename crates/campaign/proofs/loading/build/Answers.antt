@@ -13,14 +13,14 @@ pub returns-in-Err-build : goal.returns-in-Err-build
 returns-in-Err-build c =
     rw c.place-byte.ensures (bad_capacity _ _ _ c.in-Ok.ensures.exact (build_refused _ _ _ _ c.in-Err-build.ensures))
 
-pub returns-then-count-gt-RECORDS-MAX : goal.returns-then-count-gt-RECORDS-MAX
-returns-then-count-gt-RECORDS-MAX c =
+pub returns-then-count-gt-RECORDS_MAX : goal.returns-then-count-gt-RECORDS_MAX
+returns-then-count-gt-RECORDS_MAX c =
     rw c.place-byte-2.ensures
-    (too_many _ _ _ _ _ c.in-Ok.ensures.exact c.in-Ok-build.ensures c.in-Ok-number.ensures.exact c.if-count-gt-RECORDS-MAX.true)
+    (too_many _ _ _ _ _ c.in-Ok.ensures.exact c.in-Ok-build.ensures c.in-Ok-number.ensures.exact c.if-count-gt-RECORDS_MAX.true)
 
-pub returns-else-count-gt-RECORDS-MAX : goal.returns-else-count-gt-RECORDS-MAX
-returns-else-count-gt-RECORDS-MAX c =
-    heads _ _ _ _ _ c.in-Ok.ensures.exact c.in-Ok-build.ensures c.in-Ok-number.ensures.exact c.if-count-gt-RECORDS-MAX.false
+pub returns-else-count-gt-RECORDS_MAX : goal.returns-else-count-gt-RECORDS_MAX
+returns-else-count-gt-RECORDS_MAX c =
+    heads _ _ _ _ _ c.in-Ok.ensures.exact c.in-Ok-build.ensures c.in-Ok-number.ensures.exact c.if-count-gt-RECORDS_MAX.false
 
 pub returns-in-Err-number : goal.returns-in-Err-number
 returns-in-Err-number c = no_count _ _ _ _ c.in-Ok.ensures.exact c.in-Ok-build.ensures c.in-Err-number.ensures.exact.0

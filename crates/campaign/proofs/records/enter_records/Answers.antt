@@ -6,10 +6,10 @@ use Rattle.campaign.proofs.records.enter_records.Goals as goal
 pub loop-i-init : goal.loop-i-init
 loop-i-init c = none
 
-pub returns-in-err-enter-record : goal.returns-in-err-enter-record
-returns-in-err-enter-record c =
-    let p = err_from_is_err_and c.from-residual.result c.from-residual.ensures.1 in
-    rw (p.1, p.2) (at_record c.loop-i.i _ _ _ c.loop-i.invariant c.loop-i-test.true (rw (add-one c.loop-i.i) at c.in-err-enter-record.ensures))
+pub returns-in_err-enter_record : goal.returns-in_err-enter_record
+returns-in_err-enter_record c =
+    let p = err_from_is_err_and c.from_residual.result c.from_residual.ensures.1 in
+    rw (p.1, p.2) (at_record c.loop-i.i _ _ _ c.loop-i.invariant c.loop-i-test.true (rw (add-one c.loop-i.i) at c.in_err-enter_record.ensures))
 
 pub loop-i-preserved : goal.loop-i-preserved
-loop-i-preserved c = rw (add-one c.loop-i.i) (more _ _ _ _ _ c.loop-i.invariant c.in-ok-enter-record.ensures)
+loop-i-preserved c = rw (add-one c.loop-i.i) (more _ _ _ _ _ c.loop-i.invariant c.in_ok-enter_record.ensures)

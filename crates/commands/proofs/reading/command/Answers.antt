@@ -28,7 +28,7 @@ returns-in-sweep c = c.whole.ensures ∙ sym (named_sweep c.args.name.now (left 
 pub returns-in-show : goal.returns-in-show
 returns-in-show c = c.whole-in-show.ensures ∙ sym (named_show c.args.name.now (left c.args.words) c.in-show.is)
 
-pub returns-in-default : goal.returns-in-default
-returns-in-default c =
-    sym (unnamed c.args.name.now (left c.args.words) c.in-default.not-build c.in-default.not-enter c.in-default.not-withdraw
-    c.in-default.not-rebook c.in-default.not-place c.in-default.not-apply c.in-default.not-sweep c.in-default.not-show)
+pub returns-in_default : goal.returns-in_default
+returns-in_default c =
+    sym (unnamed c.args.name.now (left c.args.words) c.in_default.not-build c.in_default.not-enter c.in_default.not-withdraw
+    c.in_default.not-rebook c.in_default.not-place c.in_default.not-apply c.in_default.not-sweep c.in_default.not-show)

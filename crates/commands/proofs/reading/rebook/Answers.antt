@@ -2,19 +2,19 @@ use Rattle.std.proofs.Common.{sym, ◌∙◌}
 use Rattle.commands.proofs.Fronts.{rebook_1, rebook_2, rebook_3, rebook_whole}
 use Rattle.commands.proofs.reading.rebook.Goals as goal
 
-pub returns-in-err-pair : goal.returns-in-err-pair
-returns-in-err-pair c = c.from-residual.ensures ∙ sym (rebook_1 _ c.in-err-pair.ensures)
+pub returns-in_err-pair : goal.returns-in_err-pair
+returns-in_err-pair c = c.from_residual.ensures ∙ sym (rebook_1 _ c.in_err-pair.ensures)
 
-pub returns-in-err-release : goal.returns-in-err-release
-returns-in-err-release c =
-    c.from-residual-in-err-release.ensures ∙ sym (rebook_2 _ _ _ c.in-ok-pair.ensures c.in-err-release.ensures)
+pub returns-in_err-release : goal.returns-in_err-release
+returns-in_err-release c =
+    c.from_residual-in_err-release.ensures ∙ sym (rebook_2 _ _ _ c.in_ok-pair.ensures c.in_err-release.ensures)
 
-pub returns-in-err-deadline : goal.returns-in-err-deadline
-returns-in-err-deadline c =
-    c.from-residual-in-err-deadline.ensures
-    ∙ sym (rebook_3 _ _ _ _ _ c.in-ok-pair.ensures c.in-ok-release.ensures c.in-err-deadline.ensures)
+pub returns-in_err-deadline : goal.returns-in_err-deadline
+returns-in_err-deadline c =
+    c.from_residual-in_err-deadline.ensures
+    ∙ sym (rebook_3 _ _ _ _ _ c.in_ok-pair.ensures c.in_ok-release.ensures c.in_err-deadline.ensures)
 
 pub returns : goal.returns
 returns c =
     c.whole.ensures
-    ∙ sym (rebook_whole _ _ _ _ _ _ _ c.in-ok-pair.ensures c.in-ok-release.ensures c.in-ok-deadline.ensures)
+    ∙ sym (rebook_whole _ _ _ _ _ _ _ c.in_ok-pair.ensures c.in_ok-release.ensures c.in_ok-deadline.ensures)

@@ -52,42 +52,42 @@ front : (entries : List Entry) (order : List ℕ) (rows : List Entry) → Arrang
 front entries order rows arranged =
     let same : length entries ≡ length entries - 0 = omega arith in subst (λ (n : ℕ). Arranged entries order (take n rows)) same arranged
 
-pub whole-pass-found-requires : goal.whole-pass-found-requires
-whole-pass-found-requires c =
+pub whole_pass-found-requires : goal.whole_pass-found-requires
+whole_pass-found-requires c =
     let es = c.args.entries.now in
-    let order = c.by-release-order.result in
+    let order = c.by_release-order.result in
     let rows = take (length es - 0) c.arranged-rows.result in
-    let sorted = c.by-release-order.ensures.sorted in
+    let sorted = c.by_release-order.ensures.sorted in
     let arranged = front es order c.arranged-rows.result c.arranged-rows.ensures in
     (arranged_rising c.args.capacity es order rows sorted arranged, arranged_sound c.args.capacity es order rows sorted arranged c.requires)
 
 pub before-requires : goal.before-requires
 before-requires c =
     let es = c.args.entries.now in
-    let order = c.by-release-order.result in
+    let order = c.by_release-order.result in
     let rows = take (length es - 0) c.arranged-rows.result in
     let arranged = front es order c.arranged-rows.result c.arranged-rows.ensures in
-    let inner = inside c.args.capacity es order rows c.by-release-order.ensures.sorted arranged c.whole-pass-found.result c.whole-pass-found.ensures c.requires c.in-None.is in
-    (c.requires.few, (c.by-release-order.ensures, (c.whole-pass-found.ensures.places, inner)))
+    let inner = inside c.args.capacity es order rows c.by_release-order.ensures.sorted arranged c.whole_pass-found.result c.whole_pass-found.ensures c.requires c.in-None.is in
+    (c.requires.few, (c.by_release-order.ensures, (c.whole_pass-found.ensures.places, inner)))
 
 pub returns-in-Some : goal.returns-in-Some
 returns-in-Some c =
     let es = c.args.entries.now in
-    let order = c.by-release-order.result in
+    let order = c.by_release-order.result in
     let rows = take (length es - 0) c.arranged-rows.result in
     let arranged = front es order c.arranged-rows.result c.arranged-rows.ensures in
     subst (Named (Overfull (sheet c.args.capacity es))) c.in-Some.is
-    (named c.args.capacity es order rows c.by-release-order.ensures.sorted arranged c.whole-pass-found.result c.whole-pass-found.ensures)
+    (named c.args.capacity es order rows c.by_release-order.ensures.sorted arranged c.whole_pass-found.result c.whole_pass-found.ensures)
 
 pub returns-in-None : goal.returns-in-None
 returns-in-None c =
     let es = c.args.entries.now in
-    let order = c.by-release-order.result in
+    let order = c.by_release-order.result in
     let rows = take (length es - 0) c.arranged-rows.result in
-    let sorted = c.by-release-order.ensures.sorted in
+    let sorted = c.by_release-order.ensures.sorted in
     let arranged = front es order c.arranged-rows.result c.arranged-rows.ensures in
-    let found = c.whole-pass-found.result in
-    let passed = c.whole-pass-found.ensures in (
+    let found = c.whole_pass-found.result in
+    let passed = c.whole_pass-found.ensures in (
       nowhere c.args.capacity es order rows sorted arranged found passed c.requires c.in-None.is,
       started c.args.capacity es order rows sorted arranged found passed c.requires c.in-None.is c.before-in-None.result c.before-in-None.ensures,
     )

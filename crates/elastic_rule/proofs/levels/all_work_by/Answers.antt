@@ -10,8 +10,8 @@ use Rattle.elastic_rule.proofs.levels.all_work_by.Goals as goal
 pub loop-e-init : goal.loop-e-init
 loop-e-init c = sym (total_none (λ k. work_inside 0 c.args.t2 (entry (sheet capacity_max c.args.entries.now) k)))
 
-pub overflow-add-sum : goal.overflow-add-sum
-overflow-add-sum c =
+pub overflow_add-sum : goal.overflow_add-sum
+overflow_add-sum c =
     let s = sheet capacity_max c.args.entries.now in
     let f : ℕ → ℕ = λ k. work_inside 0 c.args.t2 (entry s k) in
     let i = c.loop-e.e-index in

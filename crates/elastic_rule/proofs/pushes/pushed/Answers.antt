@@ -20,14 +20,14 @@ level_small s sound r t2 n b full =
 small : (s : Sheet) → Sound s → (k r t2 n b : ℕ) → k < count s → Fullest s r t2 n b → b + work (entry s k) ≤ 1089728640
 small s sound k r t2 n b here full = omega (arith, level_small s sound r t2 n b full, work_small s sound k here)
 
-pub overflow-add-total : goal.overflow-add-total
-overflow-add-total c =
+pub overflow_add-total : goal.overflow_add-total
+overflow_add-total c =
     let s = sheet c.args.capacity c.args.entries.now in
     let (sound, (here, (there, (full, is)))) = c.requires in
     omega (arith, small s sound c.args.k (entry s c.args.k).release (entry s c.args.j).deadline (count s) c.args.level here full)
 
-pub overflow-add-last : goal.overflow-add-last
-overflow-add-last c =
+pub overflow_add-last : goal.overflow_add-last
+overflow_add-last c =
     let s = sheet c.args.capacity c.args.entries.now in
     let (sound, (here, (there, (full, is)))) = c.requires in
     omega (arith, small s sound c.args.k (entry s c.args.k).release (entry s c.args.j).deadline (count s) c.args.level here full, sound.small_capacity)

@@ -17,5 +17,5 @@ returns-in-E c = by_name c.args.letter 69 meaning_E (bookings c.args.board.now) 
 pub returns-in-S : goal.returns-in-S
 returns-in-S c = by_name c.args.letter 83 meaning_S (bookings c.args.board.now) (bookings c.apply-in-S.new.board) _ c.told-in-S.result c.in-S.is names_S c.apply-in-S.ensures.step c.told-in-S.ensures
 
-pub returns-in-default : goal.returns-in-default
-returns-in-default c = by_none c.args.letter (bookings c.args.board.now) (search rules) (search rules) (search rules)
+pub returns-in_default : goal.returns-in_default
+returns-in_default c = by_none c.args.letter (bookings c.args.board.now) (search rules) (search rules) (search rules)

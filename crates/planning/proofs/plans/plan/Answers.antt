@@ -10,7 +10,7 @@ pub returns-in-Ok : goal.returns-in-Ok
 returns-in-Ok c =
     let (text, plans, writes) = c.in-Ok.ensures in
     record {
-      text = (text, bookings c.plan-and-tell.new.board, plans, writes, refl);
+      text = (text, bookings c.plan_and_tell.new.board, plans, writes, refl);
       promise = (every_load_enters_the_tests, (every_plan_keeps_its_promise, every_file_has_one_plan));
     }
 
@@ -18,6 +18,6 @@ pub returns-in-Err : goal.returns-in-Err
 returns-in-Err c =
     let (text, plans, writes) = c.in-Err.ensures in
     record {
-      text = (text, bookings c.plan-and-tell.new.board, plans, writes, c.restore.ensures ∙ c.save-saved.ensures);
+      text = (text, bookings c.plan_and_tell.new.board, plans, writes, c.restore.ensures ∙ c.save-saved.ensures);
       promise = (every_load_enters_the_tests, (every_plan_keeps_its_promise, every_file_has_one_plan));
     }

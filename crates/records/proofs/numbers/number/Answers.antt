@@ -16,14 +16,14 @@ returns-then-i-input c =
 pub bounds-input-i : goal.bounds-input-i
 bounds-input-i c = omega (arith, announcing_le c.args.input.now)
 
-pub overflow-mul-value : goal.overflow-mul-value
-overflow-mul-value c =
+pub overflow_mul-value : goal.overflow_mul-value
+overflow_mul-value c =
     let w = small_weight c.loop-i.i (omega arith) in
     let b = group_below c.loop-i.value (get_or c.args.input.now c.loop-i.i 0) c.loop-i.weight c.loop-i.invariant.3 in
     omega arith
 
-pub overflow-add-value : goal.overflow-add-value
-overflow-add-value c =
+pub overflow_add-value : goal.overflow_add-value
+overflow_add-value c =
     let w = small_weight c.loop-i.i (omega arith) in
     let b = group_below c.loop-i.value (get_or c.args.input.now c.loop-i.i 0) c.loop-i.weight c.loop-i.invariant.3 in
     omega arith
@@ -40,8 +40,8 @@ returns-then-byte-lt128 c =
     let e : number_at c.args.groups s ≡ Ok (value_of (take (announcing s + 1) s), announcing s + 1) = number_whole c.args.groups s (omega arith) (omega arith) in
     record { exact = cc }
 
-pub overflow-mul-weight : goal.overflow-mul-weight
-overflow-mul-weight c =
+pub overflow_mul-weight : goal.overflow_mul-weight
+overflow_mul-weight c =
     let w = small_weight c.loop-i.i (omega arith) in
     omega arith
 

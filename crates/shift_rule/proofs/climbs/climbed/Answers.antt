@@ -20,8 +20,8 @@ climb_most r low far k =
 pub loop-k-init : goal.loop-k-init
 loop-k-init c = (sym (total_none (climb c.args.ramps.now c.args.far)), omega arith)
 
-pub overflow-add-sum : goal.overflow-add-sum
-overflow-add-sum c =
+pub overflow_add-sum : goal.overflow_add-sum
+overflow_add-sum c =
     let r = c.args.ramps.now in
     let k = c.loop-k.k in
     let here : get_or r.demands k 0 * c.min.result ≡ climb r c.args.far k =

@@ -34,8 +34,8 @@ loop-e-preserved c =
     let i = c.loop-e.e-index in (
       c.push.ensures.low,
       omega (arith, c.push.ensures.count, c.loop-e.invariant.1),
-      added_more s (λ (e : Entry). t2 - (e.release + e.duration)) (λ (e : Entry). right_part e t2) i c.loop-e.ramps c.push.new.ramps c.loop-e.invariant.2 c.saturating-sub.result c.right_part.result
-          c.saturating-sub.ensures c.right_part.ensures c.push.ensures.climbs,
+      added_more s (λ (e : Entry). t2 - (e.release + e.duration)) (λ (e : Entry). right_part e t2) i c.loop-e.ramps c.push.new.ramps c.loop-e.invariant.2 c.saturating_sub.result c.right_part.result
+          c.saturating_sub.ensures c.right_part.ensures c.push.ensures.climbs,
     )
 
 pub returns : goal.returns

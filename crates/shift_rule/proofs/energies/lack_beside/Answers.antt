@@ -13,8 +13,8 @@ split e t1 t2 early is =
     let parts : early ≡ held e t1 t2 + (min (t2 - t1) (left_part e t1) - held e t1 t2) = omega arith in
     omega (arith, energy_is e t1 t2, ap (λ (n : ℕ). e.demand * n) parts)
 
-pub overflow-sub-e : goal.overflow-sub-e
-overflow-sub-e c =
+pub overflow_sub-e : goal.overflow_sub-e
+overflow_sub-e c =
     let early : c.min-early.result ≡ min (c.args.t2 - c.args.t1) (left_part c.args.e c.args.t1) = omega arith in
     let parts = split c.args.e c.args.t1 c.args.t2 c.min-early.result early in
     omega (arith, c.energy_of.ensures)
@@ -23,4 +23,4 @@ pub returns : goal.returns
 returns c =
     let early : c.min-early.result ≡ min (c.args.t2 - c.args.t1) (left_part c.args.e c.args.t1) = omega arith in
     let parts = split c.args.e c.args.t1 c.args.t2 c.min-early.result early in
-    omega (arith, c.energy_of.ensures, c.saturating-sub-2.ensures)
+    omega (arith, c.energy_of.ensures, c.saturating_sub-2.ensures)

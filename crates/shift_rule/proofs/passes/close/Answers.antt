@@ -9,16 +9,16 @@ pub returns : goal.returns
 returns c =
     let s = sheet_in c.args.subject.now in
     let v = c.args.found.now in
-    let w = c.to-end.new.found in
-    let on = c.to-end.ensures.onward in
+    let w = c.to_end.new.found in
+    let on = c.to_end.ensures.onward in
     let points = c.args.points.now in
     let marked =
     marks_still (AccountedTo s v) (AccountedTo s w) points.closed (to_still s v w on) c.requires.gone.closed in
     record {
       onward = on;
       gone = record {
-        closed = marks_more (AccountedTo s w) points.closed c.args.t2 marked c.to-end.ensures.accounted;
+        closed = marks_more (AccountedTo s w) points.closed c.args.t2 marked c.to_end.ensures.accounted;
         begun = marks_still (AccountedFrom s v) (AccountedFrom s w) points.begun (from_still s v w on) c.requires.gone.begun;
       };
-      accounted = c.to-end.ensures.accounted;
+      accounted = c.to_end.ensures.accounted;
     }

@@ -8,22 +8,22 @@ use Rattle.shift_rule.specs.Found.{AllAccounted}
 use Rattle.shift_rule.proofs.Onward.{still, then, all_still}
 use Rattle.shift_rule.proofs.passes.from_start.Goals as goal
 
-pub ramps-from-ramps-requires : goal.ramps-from-ramps-requires
-ramps-from-ramps-requires c = c.requires.known.sound
+pub ramps_from-ramps-requires : goal.ramps_from-ramps-requires
+ramps_from-ramps-requires c = c.requires.known.sound
 
 pub loop-place-init : goal.loop-place-init
 loop-place-init c =
     let s = sheet_in c.args.subject.now in
     (still s c.args.found.now c.requires.right, λ j l. absurd (omega arith))
 
-pub from-to-requires : goal.from-to-requires
-from-to-requires c =
+pub from_to-requires : goal.from_to-requires
+from_to-requires c =
     let s = sheet_in c.args.subject.now in
     let i = c.loop-place.place in
     record {
       known = c.requires.known;
-      low = c.ramps-from-ramps.ensures.low;
-      energies = c.ramps-from-ramps.ensures.energies;
+      low = c.ramps_from-ramps.ensures.low;
+      energies = c.ramps_from-ramps.ensures.energies;
       place = c.loop-place-test.true;
       right = c.loop-place.invariant.0.right;
       candidates = start_made s c.args.t1 c.requires.point i c.loop-place-test.true;

@@ -18,8 +18,8 @@ visit-requires c =
       candidate = c.requires.candidates.0;
     }
 
-pub visit-other-requires : goal.visit-other-requires
-visit-other-requires c =
+pub visit_other-requires : goal.visit_other-requires
+visit_other-requires c =
     record {
       known = c.requires.known;
       enough = (c.requires.known.around c.args.place c.requires.place).early_end;
@@ -37,14 +37,14 @@ visit-requires-2 c =
       enough = (c.requires.known.around c.args.place c.requires.place).late_start;
       low = c.requires.low;
       energies = c.requires.energies _;
-      right = c.visit-other.ensures.onward.right;
+      right = c.visit_other.ensures.onward.right;
       candidate = c.requires.candidates.1.1.0;
     }
 
 pub visit-requires-3 : goal.visit-requires-3
 visit-requires-3 c =
     let s = sheet_in c.args.subject.now in
-    let is = c.saturating-sub-opposite.ensures in
+    let is = c.saturating_sub-opposite.ensures in
     record {
       known = c.requires.known;
       enough = c.requires.known.anywhere _;
@@ -61,21 +61,21 @@ returns c =
     let t1 = c.args.t1 in
     let v = c.args.found.now in
     let v1 = c.visit.new.found in
-    let v2 = c.visit-other.new.found in
+    let v2 = c.visit_other.new.found in
     let v3 = c.visit-2.new.found in
     let v4 = c.visit-3.new.found in
     let on34 = c.visit-3.ensures.onward in
     let on24 = then s v2 v3 v4 c.visit-2.ensures.onward on34 in
-    let on14 = then s v1 v2 v4 c.visit-other.ensures.onward on24 in
+    let on14 = then s v1 v2 v4 c.visit_other.ensures.onward on24 in
     record {
       onward = then s v v1 v4 c.visit.ensures.onward on14;
       accounted = (
         accounted_still s v1 v4 on14 t1 e.deadline c.visit.ensures.accounted,
         (
-          accounted_still s v2 v4 on24 t1 (e.release + e.duration) c.visit-other.ensures.accounted,
+          accounted_still s v2 v4 on24 t1 (e.release + e.duration) c.visit_other.ensures.accounted,
           (
             accounted_still s v3 v4 on34 t1 (e.deadline - e.duration) c.visit-2.ensures.accounted,
-            (subst (λ (t : ℕ). Accounted s v4 t1 t) c.saturating-sub-opposite.ensures c.visit-3.ensures.accounted, tt),
+            (subst (λ (t : ℕ). Accounted s v4 t1 t) c.saturating_sub-opposite.ensures c.visit-3.ensures.accounted, tt),
           ),
         ),
       );

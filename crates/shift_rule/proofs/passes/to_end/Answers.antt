@@ -8,23 +8,23 @@ use Rattle.shift_rule.specs.Found.{Accounted}
 use Rattle.shift_rule.proofs.Onward.{still, then, accounted_still}
 use Rattle.shift_rule.proofs.passes.to_end.Goals as goal
 
-pub ramps-to-ramps-requires : goal.ramps-to-ramps-requires
-ramps-to-ramps-requires c = c.requires.known.sound
+pub ramps_to-ramps-requires : goal.ramps_to-ramps-requires
+ramps_to-ramps-requires c = c.requires.known.sound
 
 pub loop-e-init : goal.loop-e-init
 loop-e-init c =
     let s = sheet_in c.args.subject.now in
     (still s c.args.found.now c.requires.right, λ j l. absurd (omega arith))
 
-pub to-from-requires : goal.to-from-requires
-to-from-requires c =
+pub to_from-requires : goal.to_from-requires
+to_from-requires c =
     let s = sheet_in c.args.subject.now in
     let i = c.loop-e.e-index in
     record {
       known = c.requires.known;
       enough = c.requires.enough;
-      low = c.ramps-to-ramps.ensures.low;
-      energies = c.ramps-to-ramps.ensures.energies;
+      low = c.ramps_to-ramps.ensures.low;
+      energies = c.ramps_to-ramps.ensures.energies;
       fine = c.requires.known.sound.each i c.loop-e-test.true;
       right = c.loop-e.invariant.0.right;
       candidate = end_made s c.args.t2 c.requires.point i c.loop-e-test.true;
@@ -34,12 +34,12 @@ pub loop-e-preserved : goal.loop-e-preserved
 loop-e-preserved c =
     let s = sheet_in c.args.subject.now in
     let t2 = c.args.t2 in
-    let w = c.to-from.new.found in
-    let on = c.to-from.ensures.onward in (
+    let w = c.to_from.new.found in
+    let on = c.to_from.ensures.onward in (
       then s c.args.found.now c.loop-e.found w c.loop-e.invariant.0 on,
       below_more (λ j. Accounted s w (to_end t2 (entry s j)).t1 t2) c.loop-e.e-index
           (λ j l. accounted_still s c.loop-e.found w on (to_end t2 (entry s j)).t1 t2 (c.loop-e.invariant.1 j l))
-          c.to-from.ensures.accounted,
+          c.to_from.ensures.accounted,
     )
 
 pub returns : goal.returns

@@ -11,9 +11,9 @@ loop-k-preserved c =
     let s = sheet_of c.args.capacity c.args.entries.now in
     let k = c.loop-k.k in
     let (many, old) = c.loop-k.invariant in (
-      length-set c.loop-k.reaches k c.reach-around.result ∙ many,
-      fill_on (λ j r. EnoughAround s (entry s j) r) no_reach c.loop-k.reaches k c.reach-around.result
-          (omega (arith, c.requires.0.few, c.loop-k-test.true)) old c.reach-around.ensures,
+      length-set c.loop-k.reaches k c.reach_around.result ∙ many,
+      fill_on (λ j r. EnoughAround s (entry s j) r) no_reach c.loop-k.reaches k c.reach_around.result
+          (omega (arith, c.requires.0.few, c.loop-k-test.true)) old c.reach_around.ensures,
     )
 
 pub returns : goal.returns

@@ -17,7 +17,7 @@ returns-then-t2-seen c =
 
 pub weigh-requires : goal.weigh-requires
 weigh-requires c =
-    let is = rw c.if-is-near.true at c.is-near.ensures in
+    let is = rw c.if-is_near.true at c.is_near.ensures in
     record {
       known = c.requires.known;
       enough = c.requires.enough;
@@ -27,12 +27,12 @@ weigh-requires c =
       candidate = c.requires.candidate is;
     }
 
-pub returns-else-is-near : goal.returns-else-is-near
-returns-else-is-near c =
+pub returns-else-is_near : goal.returns-else-is_near
+returns-else-is_near c =
     let s = sheet_in c.args.subject.now in
     let v = c.args.found.now in
     record {
       onward = still s v c.requires.right;
       accounted = passed_by s c.requires.known.sound v c.requires.right c.args.ramps.now c.requires.low c.args.reach c.args.t1 c.args.t2
-          c.requires.enough c.requires.energies c.requires.candidate (rw c.if-is-near.false at c.is-near.ensures);
+          c.requires.enough c.requires.energies c.requires.candidate (rw c.if-is_near.false at c.is_near.ensures);
     }

@@ -13,8 +13,8 @@ use Rattle.sweep.proofs.Applied.{squeezed, rested, fits, narrowed_so}
 use Rattle.sweep.proofs.Sounds.{board_sound}
 use Rattle.sweep.proofs.applying.apply.Goals as goal
 
-pub all-figures-windows-requires : goal.all-figures-windows-requires
-all-figures-windows-requires g c = c.in-Ok.ensures.starts
+pub all_figures-windows-requires : goal.all_figures-windows-requires
+all_figures-windows-requires g c = c.in-Ok.ensures.starts
 
 pub returns-in-Err : goal.returns-in-Err
 returns-in-Err g c =
@@ -31,8 +31,8 @@ returns-in-Some g c =
     let rule = c.args.rule.now in
     let means = g.R.Rule.means rule in
     let b = bookings c.args.board.now in
-    let ws = c.all-figures-windows.result in
-    let figs = subst (λ (d : Bookings). (k : ℕ) → k < count (at_present d) → window_at ws k ≡ figures means (at_present d) k) same c.all-figures-windows.ensures in
+    let ws = c.all_figures-windows.result in
+    let figs = subst (λ (d : Bookings). (k : ℕ) → k < count (at_present d) → window_at ws k ≡ figures means (at_present d) k) same c.all_figures-windows.ensures in
     let none = ap (λ (d : Bookings). means.evidence (at_present d)) (sym same) ∙ c.in-Ok.ensures.told in
     let k = c.in-Some.row in
     let short = subst (λ (rows : List Row). (k < length rows) × TooShort rows ws k × ((j : ℕ) → j < k → ¬ TooShort rows ws j)) c.rows.ensures c.in-Some.ensures in
@@ -47,10 +47,10 @@ returns-then-not-differ g c =
     let rule = c.args.rule.now in
     let means = g.R.Rule.means rule in
     let b = bookings c.args.board.now in
-    let ws = c.all-figures-windows.result in
-    let figs = subst (λ (d : Bookings). (k : ℕ) → k < count (at_present d) → window_at ws k ≡ figures means (at_present d) k) same c.all-figures-windows.ensures in
+    let ws = c.all_figures-windows.result in
+    let figs = subst (λ (d : Bookings). (k : ℕ) → k < count (at_present d) → window_at ws k ≡ figures means (at_present d) k) same c.all_figures-windows.ensures in
     let none = ap (λ (d : Bookings). means.evidence (at_present d)) (sym same) ∙ c.in-Ok.ensures.told in
-    let wide = subst (λ (rows : List Row). (k : ℕ) → k < length rows → ¬ TooShort rows ws k) c.rows.ensures c.in-default.ensures in
+    let wide = subst (λ (rows : List Row). (k : ℕ) → k < length rows → ¬ TooShort rows ws k) c.rows.ensures c.in_default.ensures in
     let still = subst (λ (rows : List Row). (k : ℕ) → k < length rows → window_at ws k ≡ (row_at rows k).present) c.rows-2.ensures c.if-not-differ.ensures in
     record {
       step = rested means b ws figs none wide still;
@@ -62,9 +62,9 @@ write-requires g c =
     let same = c.present-sheet.ensures in
     let means = g.R.Rule.means c.args.rule.now in
     let b = bookings c.args.board.now in
-    let ws = c.all-figures-windows.result in
-    let figs = subst (λ (d : Bookings). (k : ℕ) → k < count (at_present d) → window_at ws k ≡ figures means (at_present d) k) same c.all-figures-windows.ensures in
-    let wide = subst (λ (rows : List Row). (k : ℕ) → k < length rows → ¬ TooShort rows ws k) c.rows.ensures c.in-default.ensures in
+    let ws = c.all_figures-windows.result in
+    let figs = subst (λ (d : Bookings). (k : ℕ) → k < count (at_present d) → window_at ws k ≡ figures means (at_present d) k) same c.all_figures-windows.ensures in
+    let wide = subst (λ (rows : List Row). (k : ℕ) → k < length rows → ¬ TooShort rows ws k) c.rows.ensures c.in_default.ensures in
     let sound = board_sound c.args.board.now in
     (search rules, fits means b ws figs sound wide)
 
@@ -74,10 +74,10 @@ returns g c =
     let rule = c.args.rule.now in
     let means = g.R.Rule.means rule in
     let b = bookings c.args.board.now in
-    let ws = c.all-figures-windows.result in
-    let figs = subst (λ (d : Bookings). (k : ℕ) → k < count (at_present d) → window_at ws k ≡ figures means (at_present d) k) same c.all-figures-windows.ensures in
+    let ws = c.all_figures-windows.result in
+    let figs = subst (λ (d : Bookings). (k : ℕ) → k < count (at_present d) → window_at ws k ≡ figures means (at_present d) k) same c.all_figures-windows.ensures in
     let none = ap (λ (d : Bookings). means.evidence (at_present d)) (sym same) ∙ c.in-Ok.ensures.told in
-    let wide = subst (λ (rows : List Row). (k : ℕ) → k < length rows → ¬ TooShort rows ws k) c.rows.ensures c.in-default.ensures in
+    let wide = subst (λ (rows : List Row). (k : ℕ) → k < length rows → ¬ TooShort rows ws k) c.rows.ensures c.in_default.ensures in
     let other = subst (λ (rows : List Row). (k : ℕ) × (k < length rows) × (¬ (window_at ws k ≡ (row_at rows k).present))) c.rows-2.ensures c.if-not-differ.ensures in
     record {
       step = narrowed_so means b ws figs none wide other.0 other.1 other.2 (bookings c.write.new.board) c.write.ensures;

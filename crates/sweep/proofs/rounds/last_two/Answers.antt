@@ -17,7 +17,7 @@ returns-in-Narrowed g c =
     let rules = (g.Z.Rule.means c.args.z.now ∷ []) in
     let b = bookings c.args.board.now in
     let d = bookings c.last.new.board in
-    subst (λ (o : Outcome). Rounds (rule ∷ rules) b o d) (sym c.narrowed-and.ensures)
+    subst (λ (o : Outcome). Rounds (rule ∷ rules) b o d) (sym c.narrowed_and.ensures)
     (round_narrowed rule rules b (bookings c.step.new.board) d c.last.result c.in-Narrowed.ensures c.last.ensures)
 
 pub returns-in-Quiet : goal.returns-in-Quiet

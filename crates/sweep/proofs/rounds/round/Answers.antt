@@ -16,12 +16,12 @@ returns-in-Narrowed g c =
     let rule = g.X.Rule.means c.args.x.now in
     let rules = (g.Y.Rule.means c.args.y.now ∷ (g.Z.Rule.means c.args.z.now ∷ [])) in
     let b = bookings c.args.board.now in
-    let d = bookings c.last-two.new.board in
-    subst (λ (o : Outcome). Rounds (rule ∷ rules) b o d) (sym c.narrowed-and.ensures)
-    (round_narrowed rule rules b (bookings c.step.new.board) d c.last-two.result c.in-Narrowed.ensures c.last-two.ensures)
+    let d = bookings c.last_two.new.board in
+    subst (λ (o : Outcome). Rounds (rule ∷ rules) b o d) (sym c.narrowed_and.ensures)
+    (round_narrowed rule rules b (bookings c.step.new.board) d c.last_two.result c.in-Narrowed.ensures c.last_two.ensures)
 
 pub returns-in-Quiet : goal.returns-in-Quiet
 returns-in-Quiet g c =
     round_quiet (g.X.Rule.means c.args.x.now) (g.Y.Rule.means c.args.y.now ∷ (g.Z.Rule.means c.args.z.now ∷ []))
-    (bookings c.args.board.now) (bookings c.step.new.board) (bookings c.last-two-in-Quiet.new.board) c.last-two-in-Quiet.result
-    c.in-Quiet.ensures c.last-two-in-Quiet.ensures
+    (bookings c.args.board.now) (bookings c.step.new.board) (bookings c.last_two-in-Quiet.new.board) c.last_two-in-Quiet.result
+    c.in-Quiet.ensures c.last_two-in-Quiet.ensures

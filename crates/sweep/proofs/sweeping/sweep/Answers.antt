@@ -13,14 +13,14 @@ use Rattle.sweep.proofs.sweeping.sweep.Goals as goal
 pub loop-verdict-init : goal.loop-verdict-init
 loop-verdict-init g c = resumes_here _ (bookings c.args.board.now) (board_sound c.args.board.now)
 
-pub overflow-add-passed : goal.overflow-add-passed
-overflow-add-passed g c = omega (arith, rounds_small _ _ _ _ (board_sound c.args.board.now) c.loop-verdict.invariant)
+pub overflow_add-passed : goal.overflow_add-passed
+overflow_add-passed g c = omega (arith, rounds_small _ _ _ _ (board_sound c.args.board.now) c.loop-verdict.invariant)
 
-pub overflow-add-result : goal.overflow-add-result
-overflow-add-result g c = omega (arith, rounds_small _ _ _ _ (board_sound c.args.board.now) c.loop-verdict.invariant)
+pub overflow_add-result : goal.overflow_add-result
+overflow_add-result g c = omega (arith, rounds_small _ _ _ _ (board_sound c.args.board.now) c.loop-verdict.invariant)
 
-pub overflow-add-result-in-Quiet : goal.overflow-add-result-in-Quiet
-overflow-add-result-in-Quiet g c = omega (arith, rounds_small _ _ _ _ (board_sound c.args.board.now) c.loop-verdict.invariant)
+pub overflow_add-result-in-Quiet : goal.overflow_add-result-in-Quiet
+overflow_add-result-in-Quiet g c = omega (arith, rounds_small _ _ _ _ (board_sound c.args.board.now) c.loop-verdict.invariant)
 
 pub loop-verdict-preserved : goal.loop-verdict-preserved
 loop-verdict-preserved g c =

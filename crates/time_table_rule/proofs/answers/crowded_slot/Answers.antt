@@ -4,10 +4,10 @@ use Rattle.sheet.proofs.Listed.{bounded}
 use Rattle.time_table_rule.proofs.Crowding.{named}
 use Rattle.time_table_rule.proofs.answers.crowded_slot.Goals as goal
 
-pub usage-line-line-requires : goal.usage-line-line-requires
-usage-line-line-requires c = bounded (sheet c.args.capacity c.args.entries.now) c.requires
+pub usage_line-line-requires : goal.usage_line-line-requires
+usage_line-line-requires c = bounded (sheet c.args.capacity c.args.entries.now) c.requires
 
 pub returns : goal.returns
 returns c =
-    named (sheet c.args.capacity c.args.entries.now) c.usage-line-line.result c.first_crowded.result
-    c.usage-line-line.ensures c.first_crowded.ensures
+    named (sheet c.args.capacity c.args.entries.now) c.usage_line-line.result c.first_crowded.result
+    c.usage_line-line.ensures c.first_crowded.ensures

@@ -10,25 +10,25 @@ use Rattle.board.proofs.boards.Board.enter.Goals as goal
 pub returns-in-Err : goal.returns-in-Err
 returns-in-Err c = refuses _ c.in-Err.ensures
 
-pub overflow-cast-window : goal.overflow-cast-window
-overflow-cast-window c = let f = fine_test (bookings c.args.self.now) c.args.test c.in-Ok.ensures in omega arith
+pub overflow_cast-window : goal.overflow_cast-window
+overflow_cast-window c = let f = fine_test (bookings c.args.self.now) c.args.test c.in-Ok.ensures in omega arith
 
-pub overflow-cast-window-2 : goal.overflow-cast-window-2
-overflow-cast-window-2 c = let f = fine_test (bookings c.args.self.now) c.args.test c.in-Ok.ensures in omega arith
+pub overflow_cast-window-2 : goal.overflow_cast-window-2
+overflow_cast-window-2 c = let f = fine_test (bookings c.args.self.now) c.args.test c.in-Ok.ensures in omega arith
 
-pub overflow-cast-duration : goal.overflow-cast-duration
-overflow-cast-duration c = let f = fine_test (bookings c.args.self.now) c.args.test c.in-Ok.ensures in omega arith
+pub overflow_cast-duration : goal.overflow_cast-duration
+overflow_cast-duration c = let f = fine_test (bookings c.args.self.now) c.args.test c.in-Ok.ensures in omega arith
 
-pub overflow-cast-demand : goal.overflow-cast-demand
-overflow-cast-demand c = let f = fine_test (bookings c.args.self.now) c.args.test c.in-Ok.ensures in omega (arith, c.args.self.now.most)
+pub overflow_cast-demand : goal.overflow_cast-demand
+overflow_cast-demand c = let f = fine_test (bookings c.args.self.now) c.args.test c.in-Ok.ensures in omega (arith, c.args.self.now.most)
 
 pub add-requires : goal.add-requires
 add-requires c =
     let f = fine_test (bookings c.args.self.now) c.args.test c.in-Ok.ensures in
     omega (arith, c.args.self.now.room, c.args.self.now.table.rows.ok.0)
 
-pub invariant-of-self : goal.invariant-of-self
-invariant-of-self c =
+pub invariant_of-self : goal.invariant_of-self
+invariant_of-self c =
     let b = c.args.self.now in
     let f = fine_test (bookings b) c.args.test c.in-Ok.ensures in
     let s = sound_added (bookings b) c.args.test (vec_items c.add.new.self.rows) c.add.ensures.rows

@@ -61,8 +61,8 @@ returns-in-Some c =
           (λ l. absurd (omega arith)) (λ l. omega arith);
     }
 
-pub returns-then-len-ge-ROWS-MAX : goal.returns-then-len-ge-ROWS-MAX
-returns-then-len-ge-ROWS-MAX c =
+pub returns-then-len-ge-ROWS_MAX : goal.returns-then-len-ge-ROWS_MAX
+returns-then-len-ge-ROWS_MAX c =
     let named = pair_within _ (place_judges _ _ c.in-Ok.ensures) in
     let windowed = fits_within _ _ _ c.if-not-fits.ensures in
     record {

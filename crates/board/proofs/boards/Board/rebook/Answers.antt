@@ -17,8 +17,8 @@ returns-then-not-fits c =
     unfit c.in-Some.i c.in-Some.ensures
     (subst (λ (row : Row). Misfit row.duration c.args.release c.args.deadline) read c.if-not-fits.ensures)
 
-pub invariant-of-self : goal.invariant-of-self
-invariant-of-self c =
+pub invariant_of-self : goal.invariant_of-self
+invariant_of-self c =
     let b = c.args.self.now in
     let at = c.in-Some.ensures in
     let read : c.index.result.now ≡ row_at (vec_items b.table.rows) c.in-Some.i = search (rules, get_or_read) in

@@ -3,8 +3,8 @@ use Rattle.std.proofs.Common.{◌≡◌, length, take, vec_items, sym, subst, ar
 use Rattle.model.specs.Limits.{SoundRows}
 use Rattle.board.proofs.boards.Board.restore.Goals as goal
 
-pub invariant-of-self : goal.invariant-of-self
-invariant-of-self c =
+pub invariant_of-self : goal.invariant_of-self
+invariant_of-self c =
     let b = c.args.self.now in
     let v = c.args.saved.now in
     let same : vec_items c.refill.new.self.rows ≡ take v.count v.rows = search rules in

@@ -8,8 +8,8 @@ use Rattle.board.proofs.Kept.{sound_withdrawn}
 use Rattle.board.proofs.Steps.{withdraws_removed}
 use Rattle.board.proofs.boards.Board.withdraw.Goals as goal
 
-pub invariant-of-self : goal.invariant-of-self
-invariant-of-self c =
+pub invariant_of-self : goal.invariant_of-self
+invariant_of-self c =
     let b = c.args.self.now in
     let at = c.in-Some.ensures in
     let s = sound_withdrawn b.capacity c.in-Some.i (vec_items b.table.rows) (vec_items c.reset.new.self.rows) at.inside

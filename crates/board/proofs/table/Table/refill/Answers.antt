@@ -9,7 +9,7 @@ loop-i-preserved c =
     let rows = c.args.rows.now in
     let i = c.loop-i.i in
     let more = take_more rows i no_row c.loop-i-test.true in
-    let here = c.push-reserved.ensures.items in
+    let here = c.push_reserved.ensures.items in
     (cc, omega arith, cc)
 
 pub returns : goal.returns

@@ -9,7 +9,7 @@ pub loop-i-preserved : goal.loop-i-preserved
 loop-i-preserved c =
     let xs = vec_items c.args.self.now.rows in
     let inside : c.loop-i.i < length xs = omega (arith, c.args.self.now.rows.ok.0) in
-    let more = map_over_more reset xs (vec_items c.loop-i.self.rows) c.loop-i.i c.index-mut-row.result.now inside c.loop-i.invariant.0 c.index-mut-row.ensures.value in
+    let more = map_over_more reset xs (vec_items c.loop-i.self.rows) c.loop-i.i c.index_mut-row.result.now inside c.loop-i.invariant.0 c.index_mut-row.ensures.value in
     (ap (set (vec_items c.loop-i.self.rows) c.loop-i.i) c.reset.ensures ∙ more, c.loop-i.invariant.1, c.loop-i.invariant.2)
 
 pub returns : goal.returns

@@ -14,8 +14,8 @@ itself : (o : Option Interval) → option_map (λ (i : Interval). i) o ≡ o
 itself (Some i) = refl
 itself None = refl
 
-pub first-overfull-requires : goal.first-overfull-requires
-first-overfull-requires g c =
+pub first_overfull-requires : goal.first_overfull-requires
+first_overfull-requires g c =
     same_sound (g.S.Sheet.meaning c.args.sheet.now) c.capacity.result c.entries.result.now
     c.capacity.ensures (c.entries.ensures ∙ c.list-list.ensures) (g.S.Sheet.limits c.args.sheet.now)
 
@@ -23,6 +23,6 @@ pub returns : goal.returns
 returns g c =
     let s = g.S.Sheet.meaning c.args.sheet.now in
     let same = same_sheet s c.capacity.result c.entries.result.now c.capacity.ensures (c.entries.ensures ∙ c.list-list.ensures) in
-    let named = subst (λ (x : Sheet). Named (Overfull x) c.first-overfull.result) same c.first-overfull.ensures in
-    let is = sym (evidence_is s c.first-overfull.result (g.S.Sheet.limits c.args.sheet.now) named) in
-    record { value = is; told = itself c.first-overfull.result ∙ is }
+    let named = subst (λ (x : Sheet). Named (Overfull x) c.first_overfull.result) same c.first_overfull.ensures in
+    let is = sym (evidence_is s c.first_overfull.result (g.S.Sheet.limits c.args.sheet.now) named) in
+    record { value = is; told = itself c.first_overfull.result ∙ is }

@@ -12,10 +12,10 @@ loop-i-preserved g c =
     let sound = g.S.Sheet.limits c.args.sheet.now in
     let rule = g.Self.Rule.means c.args.self.now in
     let i = c.loop-i.i in
-    let here = c.unwrap-or.result in
+    let here = c.unwrap_or.result in
     let lt : i < length c.loop-i.starts = omega (arith, sound.few) in
     let got = (g.Self.Rule.proper c.args.self.now).present s sound i (omega arith) in
-    let value : here ≡ unwrap_or (rule.earliest s i) 0 = c.unwrap-or.ensures ∙ ap (λ (p : Option ℕ). unwrap_or p 0) c.earliest.ensures in (
+    let value : here ≡ unwrap_or (rule.earliest s i) 0 = c.unwrap_or.ensures ∙ ap (λ (p : Option ℕ). unwrap_or p 0) c.earliest.ensures in (
       omega (arith, length-set c.loop-i.starts i here),
       fill_more (λ k n. rule.earliest s k ≡ Some n) c.loop-i.starts i here lt c.loop-i.invariant.1 (stands (rule.earliest s i) got.0 here got.1 value),
     )

@@ -6,8 +6,8 @@ use Rattle.model.proofs.At.{some_at, none_at, at_some, at_none}
 use Rattle.model.proofs.Cuts.{cut_count, cut_here, cut_there}
 use Rattle.sheet.proofs.cuts.CutSheet.entry.Goals as goal
 
-pub cut-at-requires : goal.cut-at-requires
-cut-at-requires g c =
+pub cut_at-requires : goal.cut_at-requires
+cut_at-requires g c =
     let s = g.S.Sheet.meaning c.args.self.now.below.now in
     let h = at_some s c.args.place c.in-Some.e (sym c.in-Some.ensures) in
     let good = (g.S.Sheet.limits c.args.self.now.below.now).each c.args.place h.0 in
@@ -31,7 +31,7 @@ returns-then-place-self g c =
     let same : m.place ≡ k = omega (arith, c.if-place-self.true) in
     let h = at_some s k c.in-Some.e (sym c.in-Some.ensures) in
     let l : k < count (cut s k m.deadline) = omega (arith, cut_count s k m.deadline) in
-    ap Some (c.cut-at.ensures ∙ ap (cut_entry m.deadline) h.1 ∙ sym (cut_here s k m.deadline h.0))
+    ap Some (c.cut_at.ensures ∙ ap (cut_entry m.deadline) h.1 ∙ sym (cut_here s k m.deadline h.0))
     ∙ sym (some_at (cut s k m.deadline) k l)
     ∙ ap (λ (j : ℕ). Rattle.model.specs.Sheets.entry_at (cut s j m.deadline) k) (sym same)
 

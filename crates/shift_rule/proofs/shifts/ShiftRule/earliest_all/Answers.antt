@@ -5,8 +5,8 @@ use Rattle.shift.specs.Meaning.{earliest_S}
 use Rattle.shift_rule.proofs.Meant.{sheet_is, sound_is}
 use Rattle.shift_rule.proofs.shifts.ShiftRule.earliest_all.Goals as goal
 
-pub earliest-starts-requires : goal.earliest-starts-requires
-earliest-starts-requires g c =
+pub earliest_starts-requires : goal.earliest_starts-requires
+earliest_starts-requires g c =
     let m = c.args.sheet.now in
     sound_is (g.S.Sheet.meaning m) c.capacity.result c.entries.result.now c.capacity.ensures
     (c.entries.ensures ∙ c.list-list.ensures) (g.S.Sheet.limits m)
@@ -18,4 +18,4 @@ returns g c =
     let same = sheet_is (g.S.Sheet.meaning m) c.capacity.result c.entries.result.now c.capacity.ensures copied in
     λ k l.
     ap (λ (s : Sheet). earliest_S s k) (sym same)
-    ∙ c.earliest-starts.ensures k (omega (arith, ap length copied))
+    ∙ c.earliest_starts.ensures k (omega (arith, ap length copied))

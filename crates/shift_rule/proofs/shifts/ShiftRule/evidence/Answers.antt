@@ -11,8 +11,8 @@ itself : (o : Option Interval) → option_map (λ i. i) o ≡ o
 itself (Some i) = refl
 itself None = refl
 
-pub first-negative-requires : goal.first-negative-requires
-first-negative-requires g c =
+pub first_negative-requires : goal.first_negative-requires
+first_negative-requires g c =
     let m = c.args.sheet.now in
     sound_is (g.S.Sheet.meaning m) c.capacity.result c.entries.result.now c.capacity.ensures
     (c.entries.ensures ∙ c.list-list.ensures) (g.S.Sheet.limits m)

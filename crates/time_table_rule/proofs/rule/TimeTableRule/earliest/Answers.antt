@@ -5,8 +5,8 @@ use Rattle.timetable.proofs.RuleT.{absent_T}
 use Rattle.sheet.proofs.Listed.{same_sound}
 use Rattle.time_table_rule.proofs.rule.TimeTableRule.earliest.Goals as goal
 
-pub earliest-starts-requires : goal.earliest-starts-requires
-earliest-starts-requires g c =
+pub earliest_starts-requires : goal.earliest_starts-requires
+earliest_starts-requires g c =
     same_sound (g.S.Sheet.meaning c.args.sheet.now) c.capacity.result c.entries-entries.result.now
     c.capacity.ensures (c.entries-entries.ensures ∙ c.list-list.ensures) (g.S.Sheet.limits c.args.sheet.now)
 

@@ -3,7 +3,7 @@ use Rattle.std.proofs.Common.{◌∙◌}
 use Rattle.sheet.proofs.Listed.{same_sound}
 use Rattle.time_table_rule.proofs.rule.TimeTableRule.earliest_all.Goals as goal
 
-pub earliest-starts-requires : goal.earliest-starts-requires
-earliest-starts-requires g c =
+pub earliest_starts-requires : goal.earliest_starts-requires
+earliest_starts-requires g c =
     same_sound (g.S.Sheet.meaning c.args.sheet.now) c.capacity.result c.entries.result.now
     c.capacity.ensures (c.entries.ensures ∙ c.list-list.ensures) (g.S.Sheet.limits c.args.sheet.now)

@@ -10,16 +10,16 @@ use Rattle.sheet.proofs.Listed.{same_sheet, same_sound}
 use Rattle.time_table_rule.proofs.Telling.{shown_told}
 use Rattle.time_table_rule.proofs.rule.TimeTableRule.evidence.Goals as goal
 
-pub crowded-slot-requires : goal.crowded-slot-requires
-crowded-slot-requires g c =
+pub crowded_slot-requires : goal.crowded_slot-requires
+crowded_slot-requires g c =
     same_sound (g.S.Sheet.meaning c.args.sheet.now) c.capacity.result c.entries.result.now
     c.capacity.ensures (c.entries.ensures ∙ c.list-list.ensures) (g.S.Sheet.limits c.args.sheet.now)
 
 pub returns : goal.returns
 returns g c =
     let s = g.S.Sheet.meaning c.args.sheet.now in
-    let found = c.crowded-slot.result in
+    let found = c.crowded_slot.result in
     let same = same_sheet s c.capacity.result c.entries.result.now c.capacity.ensures (c.entries.ensures ∙ c.list-list.ensures) in
-    let named = subst (λ (x : Sheet). Named (Crowded x) (option_map told found)) same c.crowded-slot.ensures in
+    let named = subst (λ (x : Sheet). Named (Crowded x) (option_map told found)) same c.crowded_slot.ensures in
     let is = evidence_is_T s (option_map told found) named in
     record { value = sym (ap shown is ∙ shown_told found); told = sym is }
