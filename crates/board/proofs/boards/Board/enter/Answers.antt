@@ -33,7 +33,16 @@ invariant_of-self c =
     let f = fine_test (bookings b) c.args.test c.in-Ok.ensures in
     let s = sound_added (bookings b) c.args.test (vec_items c.add.new.self.rows) c.add.ensures.rows
     (record { named = b.named; sized = b.sized; windowed = b.windowed; apart = b.apart }) f in
-    (b.least, (b.most, (omega (arith, b.table.rows.ok.0, c.add.ensures.count), (omega (arith, b.room, c.add.ensures.room), (s.named, (s.sized, (s.windowed, (s.apart, tt))))))))
+    record {
+      least = b.least;
+      most = b.most;
+      few = omega (arith, b.table.rows.ok.0, c.add.ensures.count);
+      room = omega (arith, b.room, c.add.ensures.room);
+      named = s.named;
+      sized = s.sized;
+      windowed = s.windowed;
+      apart = s.apart;
+    }
 
 pub returns : goal.returns
 returns c = enters_added (bookings c.args.self.now) c.args.test _ c.in-Ok.ensures c.add.ensures.rows

@@ -27,7 +27,16 @@ invariant_of-self c =
     (vec_items b.table.rows) (vec_items c.reset.new.self.rows) at.inside room
     (c.reset.ensures.rows ∙ ap (map reset) c.rebook.ensures.rows)
     (record { named = b.named; sized = b.sized; windowed = b.windowed; apart = b.apart }) in
-    (b.least, (b.most, (omega (arith, b.few, c.reset.ensures.count, c.rebook.ensures.count), (omega (arith, b.room, c.reset.ensures.room, c.rebook.ensures.room), (s.named, (s.sized, (s.windowed, (s.apart, tt))))))))
+    record {
+      least = b.least;
+      most = b.most;
+      few = omega (arith, b.few, c.reset.ensures.count, c.rebook.ensures.count);
+      room = omega (arith, b.room, c.reset.ensures.room, c.rebook.ensures.room);
+      named = s.named;
+      sized = s.sized;
+      windowed = s.windowed;
+      apart = s.apart;
+    }
 
 pub returns-in-None : goal.returns-in-None
 returns-in-None c = calls.Rebooks.unknown c.in-None.ensures

@@ -9,4 +9,13 @@ invariant_of-self c =
     let v = c.args.saved.now in
     let same : vec_items c.refill.new.self.rows ≡ take v.count v.rows = search rules in
     let s = subst (SoundRows v.capacity) (sym same) (record { named = v.named; sized = v.sized; windowed = v.windowed; apart = v.apart }) in
-    (v.least, (v.most, (search rules, (search rules, (s.named, (s.sized, (s.windowed, (s.apart, tt))))))))
+    record {
+      least = v.least;
+      most = v.most;
+      few = search rules;
+      room = search rules;
+      named = s.named;
+      sized = s.sized;
+      windowed = s.windowed;
+      apart = s.apart;
+    }

@@ -15,7 +15,16 @@ invariant_of-self c =
     let s = sound_withdrawn b.capacity c.in-Some.i (vec_items b.table.rows) (vec_items c.reset.new.self.rows) at.inside
     (c.reset.ensures.rows ∙ ap (map reset) c.remove.ensures.rows)
     (record { named = b.named; sized = b.sized; windowed = b.windowed; apart = b.apart }) in
-    (b.least, (b.most, (omega (arith, b.few, c.reset.ensures.count, c.remove.ensures.count), (omega (arith, b.room, c.reset.ensures.room, c.remove.ensures.room), (s.named, (s.sized, (s.windowed, (s.apart, tt))))))))
+    record {
+      least = b.least;
+      most = b.most;
+      few = omega (arith, b.few, c.reset.ensures.count, c.remove.ensures.count);
+      room = omega (arith, b.room, c.reset.ensures.room, c.remove.ensures.room);
+      named = s.named;
+      sized = s.sized;
+      windowed = s.windowed;
+      apart = s.apart;
+    }
 
 pub returns-in-None : goal.returns-in-None
 returns-in-None c = calls.Withdraws.unknown c.in-None.ensures
