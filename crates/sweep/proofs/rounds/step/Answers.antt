@@ -6,7 +6,7 @@ use Rattle.sweep.proofs.rounds.step.Goals as goal
 pub returns-in-Overfull : goal.returns-in-Overfull
 returns-in-Overfull g c =
     overfull_by (g.R.Rule.means c.args.rule.now) (bookings c.args.board.now) (bookings c.apply.new.board)
-    (g.Evidence.Tells.told c.in-Overfull.evidence) c.interval.result c.mark.result
+    (g.R.Evidence.Tells.told c.in-Overfull.evidence) c.interval.result c.mark.result
     c.in-Overfull.ensures.step c.mark.ensures c.interval.ensures
 
 pub returns-in-Squeezed : goal.returns-in-Squeezed
