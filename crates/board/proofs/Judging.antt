@@ -1,5 +1,5 @@
 -- What is wrong with a pair or a test has a number that is not below those already judged.
-use Rattle.std.proofs.Common.{◌≡◌, ℕ, ◌+◌, ◌<◌, ◌≤◌, ◌⊎◌, length, Result, inl, inr, arith, MatchResult}
+use Rattle.std.proofs.Common.{ℕ, ◌+◌, ◌<◌, ◌≤◌, length, Result, inl, inr, arith, MatchResult}
 use Rattle.std.proofs.lemmas.Bool.{cases_lt}
 use Rattle.model.specs.declared.rows.Pair.{Pair}
 use Rattle.board.specs.declared.refusals.Refusal.{Refusal}

@@ -4,13 +4,12 @@ use Rattle.std.specs.List.{remove}
 use Rattle.std.proofs.lemmas.Bool.{cases_lt, cases_order}
 use Rattle.std.proofs.lemmas.List.{length-map, get_or-map, get_or_append_left, get_or-append_right, get_or-set_same, get_or-set_other}
 use Rattle.std.proofs.lemmas.List.Edits.{length-remove, get_or-remove_below, get_or-remove_above}
-use Rattle.model.specs.declared.rows.Pair.{Pair}
 use Rattle.model.specs.declared.rows.Row.{Row}
 use Rattle.model.specs.declared.windows.Window.{Window}
 use Rattle.model.specs.Changes.{reset, rebooked}
 use Rattle.model.specs.Limits.{row_at, no_row, EachRow, Named, Sized, Windowed, Apart, SoundRows}
 use Rattle.board.specs.declared.bookings.Test.{Test}
-use Rattle.board.specs.Calls.{Bookings, StandsAt, Free, Nothing, Wrong, Misfit, row_of, pair, instant, long, idle, greedy, window, taken, full}
+use Rattle.board.specs.Calls.{Bookings, Free, Nothing, Wrong, Misfit, row_of, pair, instant, long, idle, greedy, window, taken, full}
 use Rattle.board.specs.declared.refusals.Refusal.TheVariants.{Duration, Demand, Window as Misfits, Taken, Full}
 use Rattle.board.proofs.Judging.{pair_within, fits_within}
 

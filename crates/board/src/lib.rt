@@ -1,4 +1,6 @@
 // The board: one channel capacity, and the tests that are booked against it.
+#![tactic(auto)]
+
 pub mod answers;
 pub mod boards;
 pub mod bookings;

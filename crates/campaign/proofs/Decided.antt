@@ -1,5 +1,5 @@
 -- Of what may come of a call on the board, of a record and of a file, one thing does.
-use Rattle.std.proofs.Common.{◌≡◌, ℕ, zero, suc, ◌+◌, ◌<◌, ◌≤◌, ◌⊎◌, List, length, Ok, Err, Result, sym, refl, ap, ◌∙◌, inl, inr, arith}
+use Rattle.std.proofs.Common.{◌≡◌, ℕ, zero, suc, ◌+◌, ◌<◌, ◌≤◌, ◌⊎◌, List, length, Ok, Err, refl, ap, inl, inr, arith}
 use Rattle.std.proofs.lemmas.Bool.{cases_lt, cases_eq}
 use Rattle.model.specs.declared.rows.Pair.{Pair}
 use Rattle.model.specs.declared.rows.Row.{Row}
@@ -7,12 +7,12 @@ use Rattle.board.specs.declared.bookings.Test.{Test}
 use Rattle.board.specs.declared.refusals.Refusal.{Refusal}
 use Rattle.board.specs.declared.refusals.Refusal.TheVariants.{Capacity, Profile, Bearer, Duration, Demand, Window, Taken, Full}
 use Rattle.model.specs.Limits.{row_at}
-use Rattle.board.specs.Calls.{Bookings, Builds, makes, too_small, too_large, built, WrongPair, profile, bearer_low, bearer_high, StandsAt, Free, Misfit, late, tight, Wrong, pair, instant, long, idle, greedy, window, taken, full, Nothing, First, Enters, adds, refuses}
+use Rattle.board.specs.Calls.{Bookings, Builds, makes, too_small, too_large, built, profile, bearer_low, bearer_high, StandsAt, Free, late, tight, pair, instant, long, idle, greedy, window, taken, full, Enters, adds, refuses}
 use Rattle.records.specs.declared.faults.Misread.{Misread}
 use Rattle.records.specs.Records.{Spot, Reading, Said, start, note, test, number_here, record_here}
 use Rattle.campaign.specs.declared.faults.Fault.{Fault}
 use Rattle.campaign.specs.declared.faults.Cause.TheVariants as cause
-use Rattle.campaign.specs.Loads.{unread_in, fault_in, asked_by, Heads, heads, BadHeader, no_capacity, bad_capacity, no_count, too_many, Booked, noted, tested, BadRecord, unread, refused, Front, none, more, BadFront, at_record, Loads, whole, header, body, left_over}
+use Rattle.campaign.specs.Loads.{unread_in, fault_in, asked_by, Heads, heads, BadHeader, no_capacity, bad_capacity, no_count, too_many, Booked, noted, tested, BadRecord, unread, refused, Front, none, more, BadFront, at_record, whole, header, body, left_over}
 use Rattle.campaign.specs.Outcomes.{SomeOutcome}
 use Rattle.board.proofs.Judging.{least_wrong, number_small}
 

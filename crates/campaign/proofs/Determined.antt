@@ -1,14 +1,13 @@
 -- Two ways to load a file are one.
-use Rattle.std.proofs.Common.{◌≡◌, ℕ, suc, ◌<◌, ◌≤◌, List, length, Ok, Err, Result, sym, refl, ap, ◌∙◌, subst, inl, inr, arith}
+use Rattle.std.proofs.Common.{◌≡◌, ℕ, suc, ◌<◌, List, length, Ok, Err, sym, refl, ap, ◌∙◌, subst, inl, inr, arith}
 use Rattle.std.proofs.lemmas.Bool.{cases_order}
 use Rattle.board.specs.declared.refusals.Refusal.{Refusal}
 use Rattle.board.specs.Calls.{Bookings, Answer, Builds, Enters}
-use Rattle.records.specs.declared.faults.Misread.{Misread}
 use Rattle.records.specs.declared.records.Fields.{Fields}
-use Rattle.records.specs.Records.{Spot, Reading, start, note, test, number_here, record_here}
+use Rattle.records.specs.Records.{Spot, start, note, test, number_here, record_here}
 use Rattle.campaign.specs.declared.faults.Fault.{Fault}
 use Rattle.campaign.specs.declared.faults.Cause.TheVariants as cause
-use Rattle.campaign.specs.Loads.{unread_in, fault_in, asked_by, Heads, heads, BadHeader, no_capacity, bad_capacity, no_count, too_many, Booked, noted, tested, BadRecord, unread, refused, Front, none, more, BadFront, at_record, Loads, whole, header, body, left_over}
+use Rattle.campaign.specs.Loads.{unread_in, fault_in, asked_by, Heads, heads, BadHeader, no_capacity, bad_capacity, no_count, too_many, Booked, noted, tested, BadRecord, unread, refused, Front, none, more, BadFront, at_record, whole, header, body, left_over}
 use Rattle.campaign.specs.Outcomes.{OneOutcome}
 use Rattle.campaign.proofs.Single.{same_read, same_fault, read_or_fault, note_or_test, same_fields, same_build, same_enter}
 

@@ -1,8 +1,8 @@
 -- A refused call leaves the board as it was.
-use Rattle.std.proofs.Common.{◌≡◌, ℕ, Ok, Err}
+use Rattle.std.proofs.Common.{ℕ, Err}
 use Rattle.board.specs.declared.bookings.Test.{Test}
 use Rattle.board.specs.declared.refusals.Refusal.{Refusal}
-use Rattle.board.specs.Calls.{Bookings, Builds, makes, too_small, too_large, Enters, adds, refuses}
+use Rattle.board.specs.Calls.{Bookings, Builds, too_small, too_large, Enters, refuses}
 
 pub build_refused : (b c : Bookings) (n : ℕ) (w : Refusal) → Builds b n (Err w) c → Builds b n (Err w) b
 build_refused b c n w (too_small h) = too_small h

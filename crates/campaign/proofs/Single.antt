@@ -1,5 +1,5 @@
 -- What is read at a spot, and what a call on the board makes, is one thing only.
-use Rattle.std.proofs.Common.{◌≡◌, ℕ, ◌≤◌, cond, eqb, List, Ok, Err, Result, sym, refl, ap, ◌∙◌, arith}
+use Rattle.std.proofs.Common.{◌≡◌, ℕ, ◌≤◌, cond, eqb, List, Ok, Err, sym, refl, ap, ◌∙◌, arith}
 use Rattle.board.specs.declared.bookings.Test.{Test}
 use Rattle.board.specs.declared.refusals.Refusal.{Refusal}
 use Rattle.board.specs.declared.refusals.Refusal.TheVariants.{Capacity, Profile, Bearer, Duration, Demand, Window, Taken, Full, Unknown, Letter}
@@ -7,7 +7,7 @@ use Rattle.board.specs.Refusals.{number_of}
 use Rattle.board.specs.Calls.{Bookings, Answer, Builds, makes, too_small, too_large, Enters, adds, refuses}
 use Rattle.records.specs.declared.faults.Misread.{Misread}
 use Rattle.records.specs.declared.records.Fields.{Fields}
-use Rattle.records.specs.Records.{Spot, Reading, Said, note, test}
+use Rattle.records.specs.Records.{Spot, Reading, note, test}
 
 -- ---- readings
 

@@ -1,4 +1,6 @@
 // Loads a campaign file into a board.
+#![tactic(auto)]
+
 pub mod faults;
 mod loading;
 pub mod outcomes;

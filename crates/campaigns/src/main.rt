@@ -1,4 +1,6 @@
 // Plans stored campaign files, one after the other on the same board.
+#![tactic(auto)]
+
 use anyhow::anyhow;
 use board::boards::Board;
 use planning::plan;

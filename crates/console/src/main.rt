@@ -1,4 +1,6 @@
 // Reads a command a line from standard input, calls the board, and prints an answer for each.
+#![tactic(auto)]
+
 ghost use Rattle.std.specs.Prelude.{ℕ, List};
 ghost use Rattle.board.specs.Held.{bookings};
 ghost use Rattle.commands.specs.Commands.{Reads};

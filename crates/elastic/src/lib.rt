@@ -1,4 +1,6 @@
 // E, the elastic rule: what it means, and what is proved of it and of elastic schedules.
+#![tactic(auto)]
+
 ghost use Rattle.elastic.specs.Pushes.{PushesGiveTheSmallestDeadline};
 ghost use Rattle.elastic.specs.Theorems.{EFindsTheSmallestDeadline, EIsExact, EKeepsTheLaw, MirrorsKeep, PlacementsAreElastic, SettledWindowsAreTight, SomeFitAndSomeDoNot};
 

@@ -1,5 +1,7 @@
 // E, the elastic rule, run: one pass over the deadlines, from which the first overfull interval and the end to which full intervals
 // push each entry follow.
+#![tactic(auto)]
+
 mod answers;
 mod levels;
 mod orders;

@@ -1,4 +1,6 @@
 // Runs files with every fault through load and prints what comes back.
+#![tactic(auto)]
+
 mod files;
 
 use board::boards::Board;

@@ -1,4 +1,6 @@
 // Runs limits, evidence, windows and rounds through the public calls and prints one line for each.
+#![tactic(auto)]
+
 mod asking;
 mod calling;
 mod reporting;

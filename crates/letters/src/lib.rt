@@ -1,2 +1,4 @@
 // Apply by letter: T, E or S.
+#![tactic(auto)]
+
 pub mod lettered;

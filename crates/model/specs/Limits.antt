@@ -1,6 +1,5 @@
 -- The limits that every row of every board keeps, each stated of all rows by their place.
 use Rattle.std.specs.Prelude.{◌≡◌, ℕ, ◌+◌, ◌<◌, ◌≤◌, List, length, slice_index_or}
-use Rattle.model.specs.declared.rows.Pair.{Pair}
 use Rattle.model.specs.declared.rows.Row.{Row}
 use Rattle.model.specs.Sheets.{horizon}
 

@@ -1,4 +1,6 @@
 // Reads a campaign file from standard input, plans it, and prints the report, or what is wrong with the file.
+#![tactic(auto)]
+
 use anyhow::anyhow;
 use board::boards::Board;
 use planning::plan;

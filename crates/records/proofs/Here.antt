@@ -1,10 +1,10 @@
 -- What stands at a spot, from what its parts are.
-use Rattle.std.proofs.Common.{◌≡◌, ℕ, ◌<◌, ◌≤◌, cond, eqb, ltb, List, length, take, Ok, Err, sym, refl, ap, ◌∙◌, arith}
+use Rattle.std.proofs.Common.{◌≡◌, ℕ, ◌<◌, ◌≤◌, eqb, ltb, List, length, take, Ok, Err, ◌∙◌, arith}
 use Rattle.std.proofs.lemmas.Bool.{lt-ltb, le-ltb, eq-eqb, ne_eqb, cond-true, cond-false}
 use Rattle.records.specs.declared.faults.Misread.{Misread}
 use Rattle.records.specs.declared.faults.RecordFault.TheVariants.{Kind, LongText, TextPastEnd}
 use Rattle.records.specs.declared.records.Fields.{Fields}
-use Rattle.records.specs.Records.{Spot, Reading, Said, note, test, past, fault_at, ◌then◌, text_max, number_here, text_of, text_here, fields_here, record_of, record_here}
+use Rattle.records.specs.Records.{Spot, note, test, past, fault_at, ◌then◌, number_here, text_here, fields_here, record_here}
 
 -- ---- texts
 

@@ -1,5 +1,5 @@
 -- Worked figures: bytes and the numbers that they write.
-use Rattle.std.specs.Prelude.{◌≡◌, ℕ, [], ◌∷◌, Ok, Err}
+use Rattle.std.specs.Prelude.{◌≡◌, [], ◌∷◌, Ok, Err}
 use Rattle.records.specs.declared.faults.NumberFault.TheVariants.{TooLong}
 use Rattle.records.specs.Numbers.{number_at}
 

@@ -1,5 +1,5 @@
 -- What a call of a reader does.
-use Rattle.std.specs.Prelude.{◌≡◌, ℕ, List, Ok, Err, Result}
+use Rattle.std.specs.Prelude.{◌≡◌, Ok, Err, Result}
 use Rattle.records.specs.declared.faults.Misread.{Misread}
 use Rattle.records.specs.declared.reader.Reader.{Reader}
 use Rattle.records.specs.declared.records.Record.{Record}

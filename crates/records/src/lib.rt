@@ -1,4 +1,6 @@
 // Reads the numbers and records of a campaign file.
+#![tactic(auto)]
+
 pub mod faults;
 pub mod figures;
 mod numbers;

@@ -1,4 +1,6 @@
 // What holds after every run of calls on a board.
+#![tactic(auto)]
+
 ghost use Rattle.runs.specs.Figures.{MarkedFigures};
 ghost use Rattle.runs.specs.Promise.{EveryCallHasOneStep, EveryListOfCallsHasOneRun, EveryRunKeepsItsPromise, EverySweepEndsInTime};
 

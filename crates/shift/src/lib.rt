@@ -1,4 +1,6 @@
 // S, the shift rule: it keeps the law of rules, and misses no interval of negative slack.
+#![tactic(auto)]
+
 ghost use Rattle.shift.specs.Theorems.{SKeepsTheLaw, SIsExact, LeastSlackIsAtACandidate, PartsAreClipped, QuotientsRoundUp};
 
 // The computation of S is S, and whatever is S keeps the law of rules.

@@ -1,5 +1,5 @@
 -- With as much slack as its leeway an entry is forced to no start after its release.
-use Rattle.std.proofs.Common.{◌≡◌, ℕ, ◌+◌, ◌-◌, ◌*◌, ◌<◌, ◌≤◌, min, ◌&&◌, ltb, ap, inl, inr, mul-le-mul_left, arith}
+use Rattle.std.proofs.Common.{◌≡◌, ℕ, ◌+◌, ◌-◌, ◌*◌, ◌≤◌, min, ◌&&◌, ltb, ap, inl, inr, mul-le-mul_left, arith}
 use Rattle.std.proofs.lemmas.Bool.{cases_Bool, cases_lt, and_parts, ltb-true, cond-true, cond-false}
 use Rattle.model.specs.declared.entries.Entry.{Entry}
 use Rattle.model.specs.Energy.{left_part, right_part, held, ceiling}

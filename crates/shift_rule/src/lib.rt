@@ -1,4 +1,6 @@
 // S, the shift rule, run: one energy sum for each candidate, from which evidence and every earliest start follow.
+#![tactic(auto)]
+
 mod answers;
 mod climbs;
 mod energies;

@@ -1,11 +1,11 @@
 -- From the windows that the code has found to what apply is.
-use Rattle.std.proofs.Common.{◌≡◌, ℕ, ◌+◌, ◌<◌, ◌≤◌, List, length, Some, None, sym, ap, ◌∙◌, arith}
+use Rattle.std.proofs.Common.{◌≡◌, ℕ, ◌<◌, List, length, None, sym, ap, ◌∙◌, arith}
 use Rattle.model.specs.declared.entries.Entry.{Entry}
 use Rattle.model.specs.declared.windows.Window.{Window}
 use Rattle.model.specs.Changes.{narrowed}
 use Rattle.model.specs.Limits.{row_at}
 use Rattle.model.specs.Rules.{Meaning}
-use Rattle.model.specs.Sheets.{count, entry}
+use Rattle.model.specs.Sheets.{count}
 use Rattle.board.specs.declared.answers.Effect.TheVariants.{Squeezed, Narrowed, Quiet}
 use Rattle.board.specs.Calls.{Bookings, SoundBookings, FitsIn}
 use Rattle.runs.specs.Applying.{at_present, figures, Short, Writes, Applies, squeezes, narrows, rests}

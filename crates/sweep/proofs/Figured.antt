@@ -1,10 +1,9 @@
 -- The window between what a rule answers on a sheet and on its mirror is the window of the two figures.
-use Rattle.std.proofs.Common.{◌≡◌, ℕ, ◌-◌, ◌<◌, ◌≤◌, max, Some, Option, sym, ap, ◌∙◌, arith}
+use Rattle.std.proofs.Common.{◌≡◌, ℕ, ◌-◌, ◌<◌, ◌≤◌, max, Some, sym, ap, arith}
 use Rattle.model.specs.declared.entries.Entry.{Entry}
-use Rattle.model.specs.declared.windows.Window.{Window}
 use Rattle.model.specs.Rules.{Meaning, Proper}
 use Rattle.model.specs.Sheets.{Sheet, Sound, count, entry, mirror, horizon}
-use Rattle.model.proofs.Mirrors.{mirror_at, mirror_count, mirror_sound}
+use Rattle.model.proofs.Mirrors.{mirror_at}
 use Rattle.runs.specs.Applying.{figures, number}
 use Rattle.sweep.specs.Windows.{window_between}
 

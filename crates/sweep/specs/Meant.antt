@@ -1,5 +1,5 @@
 -- What the sheet of present windows means.
-use Rattle.std.specs.Prelude.{ℕ, ◌<◌, length}
+use Rattle.std.specs.Prelude.{◌<◌, length}
 use Rattle.std.proofs.Common.{arith}
 use Rattle.model.specs.Sheets.{Sound}
 use Rattle.board.specs.Calls.{Bookings}

@@ -1,4 +1,6 @@
 // Apply and sweep: rules narrow the windows of a board.
+#![tactic(auto)]
+
 pub mod applying;
 mod figuring;
 mod outcomes;

@@ -1,8 +1,4 @@
-use Rattle.std.proofs.Common.{◌≡◌, ℕ, sym, subst}
-use Rattle.board.specs.Held.{bookings}
-use Rattle.records.specs.Reading.{spot}
-use Rattle.campaign.specs.Loads.{BadHeader, heads, no_capacity, bad_capacity, no_count, too_many}
-use Rattle.campaign.specs.declared.faults.Cause.TheVariants as cause
+use Rattle.campaign.specs.Loads.{heads, no_capacity, bad_capacity, no_count, too_many}
 use Rattle.campaign.proofs.Refused.{build_refused}
 use Rattle.campaign.proofs.loading.build.Goals as goal
 

@@ -1,4 +1,4 @@
-use Rattle.std.proofs.Common.{◌≡◌, Ok, ap, ◌∙◌}
+use Rattle.std.proofs.Common.{Ok, ap, ◌∙◌}
 use Rattle.records.specs.Reading.{spot, said_by}
 use Rattle.records.proofs.Begins.{test_begins}
 use Rattle.campaign.specs.Loads.{noted, tested, unread, refused}

@@ -1,5 +1,5 @@
 -- A line that is neither a note nor blank says what its words say.
-use Rattle.std.proofs.Common.{◌≡◌, ℕ, [], ◌∷◌, sym, ap, ◌∙◌, inl, inr, arith}
+use Rattle.std.proofs.Common.{◌≡◌, ◌∷◌, sym, ap, ◌∙◌, inl, inr}
 use Rattle.commands.specs.Commands.{command_of, PassedOver}
 use Rattle.commands.specs.Lines.{words}
 use Rattle.commands.specs.Taking.{left}

@@ -1,5 +1,5 @@
 -- What is filled and the work of one entry fit, and each way out is a step of the pushes.
-use Rattle.std.proofs.Common.{ℕ, ◌+◌, ◌*◌, ◌<◌, ◌≤◌, max, mul-le-mul, arith}
+use Rattle.std.proofs.Common.{ℕ, ◌+◌, ◌*◌, ◌<◌, ◌≤◌, mul-le-mul, arith}
 use Rattle.model.specs.Sheets.{Sheet, Sound, count, entry, work, horizon, capacity_max}
 use Rattle.model.proofs.Bounds.{work_small, work_in_small}
 use Rattle.elastic.specs.Pushes.{Fullest}

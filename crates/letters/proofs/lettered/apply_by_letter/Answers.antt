@@ -1,5 +1,5 @@
 -- Each letter applies its rule, and any other is refused.
-use Rattle.std.proofs.Common.{◌≡◌, rules}
+use Rattle.std.proofs.Common.{rules}
 use Rattle.timetable.specs.Meaning.{meaning_T}
 use Rattle.elastic.specs.Meaning.{meaning_E}
 use Rattle.shift.specs.Meaning.{meaning_S}

@@ -1,4 +1,4 @@
-use Rattle.std.proofs.Common.{◌≡◌, ℕ, ◌+◌, ◌*◌, ◌%◌, ◌^◌, ◌<◌, ◌≤◌, length, get_or, take, Ok, sym, refl, ap, ◌∙◌, add-one, arith, rules}
+use Rattle.std.proofs.Common.{◌≡◌, ◌+◌, ◌*◌, ◌%◌, ◌^◌, ◌<◌, length, get_or, take, Ok, sym, refl, ap, ◌∙◌, add-one, arith}
 use native.Mathlib.Nat.{pow-succ'}
 use Rattle.records.specs.Numbers.{value_of, announcing, number_at}
 use Rattle.records.proofs.Groups.{announcing_le, announcing_more, announcing_here, value_more, small_weight, group_below, number_ends, number_whole}

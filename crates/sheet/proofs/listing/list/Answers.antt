@@ -1,7 +1,7 @@
 -- Where all are copied, the front of the places is the list of the entries.
-use Rattle.std.proofs.Common.{◌≡◌, ℕ, zero, suc, ◌<◌, ◌≤◌, List, [], ◌∷◌, length, get_or, take, sym, refl, ap, ◌∙◌, arith}
+use Rattle.std.proofs.Common.{◌≡◌, ℕ, suc, ◌<◌, ◌≤◌, List, [], ◌∷◌, length, get_or, take, refl, ap, ◌∙◌, arith}
 use Rattle.model.specs.declared.entries.Entry.{Entry}
-use Rattle.model.specs.Sheets.{count, blank}
+use Rattle.model.specs.Sheets.{blank}
 use Rattle.sheet.proofs.listing.list.Goals as goal
 
 front : (xs ys : List Entry) → length ys ≤ length xs → ((k : ℕ) → k < length ys → get_or xs k blank ≡ get_or ys k blank) → take (length ys) xs ≡ ys

@@ -1,7 +1,6 @@
 -- One ramp more.
-use Rattle.std.proofs.Common.{◌≡◌, ℕ, ◌-◌, ◌*◌, ◌<◌, ◌≤◌, min, get_or, sym, ap, ◌∙◌, inl, inr, mul-le-mul_left, arith}
+use Rattle.std.proofs.Common.{◌≡◌, ℕ, ◌-◌, ◌*◌, ◌≤◌, min, get_or, sym, ap, ◌∙◌, inl, inr, mul-le-mul_left, arith}
 use Rattle.std.proofs.lemmas.Bool.{cases_lt}
-use Rattle.model.specs.Total.{total}
 use Rattle.model.proofs.Sums.{total_none, total_more}
 use Rattle.shift_rule.specs.declared.ramps.Ramps.{Ramps}
 use Rattle.shift_rule.specs.Ramps.{climb, Low}

@@ -1,7 +1,6 @@
 -- Three starts and three ends, one after the other.
 use Rattle.std.proofs.Common.{◌+◌, ◌-◌, refl, inl, inr}
 use Rattle.model.specs.Sheets.{entry}
-use Rattle.shift.specs.Meaning.{from_start, to_end}
 use Rattle.shift_rule.specs.Leeways.{sheet_in}
 use Rattle.shift_rule.specs.Found.{Accounted}
 use Rattle.shift_rule.proofs.Onward.{then, from_still, to_still}

@@ -1,5 +1,5 @@
 -- The places listed are those of the entries before k that have a slot to spare.
-use Rattle.std.proofs.Common.{◌≡◌, ℕ, ◌+◌, ◌<◌, length, get_or}
+use Rattle.std.proofs.Common.{◌≡◌, ◌+◌, ◌<◌, length, get_or}
 use Rattle.model.specs.Sheets.{blank, rows_max}
 use Rattle.shift_rule.proofs.Listing.{Listed}
 use Rattle.shift_rule.proofs.reaching.movers.Given as goal

@@ -1,13 +1,11 @@
 -- The sheet means the board's present windows; what the code finds on it is what apply says.
-use Rattle.std.proofs.Common.{◌≡◌, ℕ, ◌<◌, List, length, Some, None, vec_items, sym, ap, ◌∙◌, subst, arith, rules}
-use Rattle.std.specs.Option.{option_map}
+use Rattle.std.proofs.Common.{◌≡◌, ℕ, ◌<◌, List, length, sym, ap, ◌∙◌, subst, rules}
 use Rattle.model.specs.declared.rows.Row.{Row}
 use Rattle.model.specs.Limits.{row_at}
 use Rattle.model.specs.Sheets.{count}
 use Rattle.board.specs.Calls.{Bookings}
 use Rattle.board.specs.Held.{bookings}
 use Rattle.runs.specs.Applying.{at_present, figures, finds}
-use Rattle.sweep.specs.Meant.{rows_of}
 use Rattle.sweep.specs.Windows.{window_at, TooShort}
 use Rattle.sweep.proofs.Applied.{squeezed, rested, fits, narrowed_so}
 use Rattle.sweep.proofs.Sounds.{board_sound}

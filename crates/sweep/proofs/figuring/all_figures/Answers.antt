@@ -1,7 +1,7 @@
 -- What the rule answers on the mirror serves as the second figure, and each window is written at its place.
-use Rattle.std.proofs.Common.{◌≡◌, ℕ, ◌<◌, ◌≤◌, length, get_or, Some, ap, ◌∙◌, subst, arith, length-set}
+use Rattle.std.proofs.Common.{◌≡◌, ℕ, ◌<◌, length, get_or, Some, ap, ◌∙◌, subst, arith, length-set}
 use Rattle.model.specs.declared.windows.Window.{Window}
-use Rattle.model.specs.Sheets.{Sheet, count, entry, mirror}
+use Rattle.model.specs.Sheets.{Sheet, count, mirror}
 use Rattle.model.proofs.Filling.{fill_on}
 use Rattle.model.proofs.Mirrors.{mirror_count, mirror_sound}
 use Rattle.runs.specs.Applying.{figures}

@@ -1,5 +1,5 @@
 -- A round that narrows goes on from the board that it left; a round that breaks off, or in which all are quiet, is the last.
-use Rattle.std.proofs.Common.{◌+◌, ◌<◌, ◌≤◌, [], ◌∷◌, arith}
+use Rattle.std.proofs.Common.{[], ◌∷◌, arith}
 use Rattle.std.specs.List.{AllByRecursion as All}
 use Rattle.model.specs.Rules.{Lawful}
 use Rattle.board.specs.Held.{bookings}

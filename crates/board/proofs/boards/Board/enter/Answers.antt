@@ -1,9 +1,8 @@
 -- A test with nothing wrong makes a row within the limits, for which there is room.
-use Rattle.std.proofs.Common.{◌≡◌, vec_items, arith}
+use Rattle.std.proofs.Common.{vec_items, arith}
 use Rattle.board.specs.Held.{bookings}
 use Rattle.board.specs.Calls.{refuses}
-use Rattle.model.specs.Limits.{SoundRows}
-use Rattle.board.proofs.Kept.{fine_test, Fine, sound_added}
+use Rattle.board.proofs.Kept.{fine_test, sound_added}
 use Rattle.board.proofs.Steps.{enters_added}
 use Rattle.board.proofs.boards.Board.enter.Goals as goal
 

@@ -1,5 +1,5 @@
 -- Where the loop ends, no row at all has the pair.
-use Rattle.std.proofs.Common.{vec_items, arith}
+use Rattle.std.proofs.Common.{arith}
 use Rattle.board.proofs.boards.Board.find.Goals as goal
 
 pub returns : goal.returns

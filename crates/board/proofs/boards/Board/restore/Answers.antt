@@ -1,5 +1,5 @@
 -- What was saved was within the limits, and there is room for it.
-use Rattle.std.proofs.Common.{◌≡◌, length, take, vec_items, sym, subst, arith, rules}
+use Rattle.std.proofs.Common.{◌≡◌, take, vec_items, sym, subst, rules}
 use Rattle.model.specs.Limits.{SoundRows}
 use Rattle.board.proofs.boards.Board.restore.Goals as goal
 

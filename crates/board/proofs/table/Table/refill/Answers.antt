@@ -1,5 +1,5 @@
 -- One row more stands at each turn, and all of them at the end.
-use Rattle.std.proofs.Common.{◌≡◌, ◌<◌, ◌≤◌, [], ◌∷◌, ◌++◌, length, get_or, take, sym, ap, ◌∙◌, arith}
+use Rattle.std.proofs.Common.{◌∙◌, arith}
 use Rattle.std.proofs.lemmas.List.{take_all, take_more}
 use Rattle.model.specs.Limits.{no_row}
 use Rattle.board.proofs.table.Table.refill.Goals as goal

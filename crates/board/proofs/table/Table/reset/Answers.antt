@@ -1,5 +1,5 @@
 -- One row more is reset at each turn, and all of them at the end.
-use Rattle.std.proofs.Common.{◌≡◌, ◌<◌, ◌≤◌, [], ◌++◌, map, length, take, drop, set, vec_items, vec_len, sym, ap, ◌∙◌, append-nil, arith}
+use Rattle.std.proofs.Common.{◌<◌, ◌≤◌, map, length, set, vec_items, ap, ◌∙◌, append-nil, arith}
 use Rattle.std.proofs.lemmas.List.Edits.{map_over_more}
 use Rattle.std.proofs.lemmas.List.{take_all, drop_all}
 use Rattle.model.specs.Changes.{reset}

@@ -1,5 +1,5 @@
 -- The rows before i are reset, and those from i on are as they were.
-use Rattle.std.proofs.Common.{◌≡◌, ◌+◌, ◌++◌, map, take, drop, vec_items, vec_len, vec_capacity}
+use Rattle.std.proofs.Common.{◌≡◌, ◌++◌, map, take, drop, vec_items, vec_len, vec_capacity}
 use Rattle.model.specs.Changes.{reset}
 use Rattle.board.proofs.table.Table.reset.Given as goal
 

@@ -1,5 +1,5 @@
 -- A space parts the first word from the others.
-use Rattle.std.proofs.Common.{◌≡◌, [], ◌∷◌, length, Some, None, sym, ◌∙◌, arith, eqb-true}
+use Rattle.std.proofs.Common.{length, Some, None, sym, ◌∙◌, arith, eqb-true}
 use borrow.Author.Tests.{eqb-false}
 use Rattle.std.proofs.lemmas.Str.Pattern.{split_parts}
 use Rattle.commands.specs.Lines.{words_after}

@@ -1,4 +1,3 @@
-use Rattle.std.proofs.Common.{◌≡◌}
 use Rattle.std.proofs.lemmas.Result.{err_from_is_err_and}
 use Rattle.records.proofs.Here.{fields_1, fields_2, fields_3, fields_4, fields_5, fields_6, fields_whole}
 use Rattle.records.proofs.reader.Reader.take_fields.Goals as goal

@@ -1,4 +1,4 @@
-use Rattle.std.proofs.Common.{◌≡◌, arith}
+use Rattle.std.proofs.Common.{arith}
 use Rattle.std.proofs.lemmas.Result.{err_from_is_err_and}
 use Rattle.records.proofs.Here.{record_unread, record_kind, note_unread, note_whole, test_unread, label_unread, test_whole}
 use Rattle.records.proofs.reader.Reader.take_record.Goals as goal

@@ -1,5 +1,5 @@
 -- One byte more stands at the end.
-use Rattle.std.proofs.Common.{◌<◌, length, refl, arith, rules}
+use Rattle.std.proofs.Common.{◌<◌, length, refl, rules}
 use Rattle.std.proofs.lemmas.List.{take_more_set}
 use Rattle.report.proofs.texts.Text.byte.Goals as goal
 

@@ -1,5 +1,5 @@
 -- One byte more at each turn, and all of them at the end.
-use Rattle.std.proofs.Common.{◌≡◌, ◌+◌, [], ◌∷◌, ◌++◌, length, get_or, take, sym, ap, ◌∙◌, append_assoc, arith}
+use Rattle.std.proofs.Common.{[], ◌∷◌, get_or, take, append_assoc, arith}
 use Rattle.std.proofs.lemmas.List.{take_all, take_more}
 use Rattle.report.specs.Shown.{shown}
 use Rattle.report.proofs.texts.Text.word.Goals as goal

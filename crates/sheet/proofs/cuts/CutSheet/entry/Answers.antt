@@ -1,5 +1,5 @@
 -- The entry at the place of the cut is cut, and the others are those below.
-use Rattle.std.proofs.Common.{◌≡◌, ℕ, ◌<◌, ◌≤◌, Some, sym, ap, ◌∙◌, arith}
+use Rattle.std.proofs.Common.{◌≡◌, ℕ, ◌<◌, Some, sym, ap, ◌∙◌, arith}
 use Rattle.model.specs.declared.entries.Entry.{Entry}
 use Rattle.model.specs.Sheets.{count, entry, cut, cut_entry}
 use Rattle.model.proofs.At.{some_at, none_at, at_some, at_none}

@@ -1,7 +1,7 @@
 -- Each entry is the mirror of the one below.
-use Rattle.std.proofs.Common.{◌≡◌, ◌<◌, ◌≤◌, Some, sym, ap, ◌∙◌, arith}
+use Rattle.std.proofs.Common.{◌<◌, Some, sym, ap, ◌∙◌, arith}
 use Rattle.model.specs.declared.entries.Entry.{Entry}
-use Rattle.model.specs.Sheets.{count, entry, mirror, mirror_entry}
+use Rattle.model.specs.Sheets.{count, mirror, mirror_entry}
 use Rattle.model.proofs.At.{some_at, none_at, at_some, at_none}
 use Rattle.model.proofs.Mirrors.{mirror_count, mirror_at}
 use Rattle.sheet.proofs.mirrors.MirrorSheet.entry.Goals as goal

@@ -1,5 +1,5 @@
 -- The copy of the entries is what the sheet means.
-use Rattle.std.proofs.Common.{◌≡◌, ℕ, ◌<◌, List, length, get_or, IfOk, Some, None, Ok, Err, Result, ap, ◌∙◌, subst, arith, MatchResult}
+use Rattle.std.proofs.Common.{◌≡◌, ℕ, ◌<◌, List, get_or, IfOk, Some, None, Ok, Err, Result, ◌∙◌, subst, MatchResult}
 use Rattle.model.specs.declared.intervals.Interval.{Interval}
 use Rattle.model.specs.Sheets.{Sheet, count}
 use Rattle.shift.specs.Meaning.{first_negative, earliest_S}

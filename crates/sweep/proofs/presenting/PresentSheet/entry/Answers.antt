@@ -1,5 +1,5 @@
 -- The row at the place, in its present window.
-use Rattle.std.proofs.Common.{◌≡◌, ◌<◌, Some, sym, ap, ◌∙◌, arith}
+use Rattle.std.proofs.Common.{◌<◌, Some, sym, ap, ◌∙◌, arith}
 use Rattle.model.specs.Sheets.{count}
 use Rattle.model.proofs.At.{some_at, none_at}
 use Rattle.runs.specs.Applying.{at_present}
