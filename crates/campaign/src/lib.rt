@@ -1,9 +1,9 @@
 // Loads a campaign file into a board.
 #![tactic(auto)]
 
+mod entering;
 pub mod faults;
 mod loading;
 pub mod outcomes;
-mod records;
 
 pub use loading::load;

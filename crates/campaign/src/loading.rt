@@ -4,8 +4,8 @@ ghost use Rattle.board.specs.Held.{bookings};
 ghost use Rattle.records.specs.Reading.{spot};
 ghost use Rattle.campaign.specs.Loads.{Heads, BadHeader, Loads, held_after};
 
+use crate::entering::enter_records;
 use crate::faults::{Cause, Fault};
-use crate::records::enter_records;
 use board::boards::Board;
 use records::reader::Reader;
 

@@ -1,6 +1,6 @@
 -- Every plan keeps its promise.
 use Rattle.std.proofs.Common.{◌≡◌, ℕ, ◌<◌, List, [], ◌∷◌, map, length, sym, refl, ap, subst, arith}
-use Rattle.std.specs.List.{AllByRecursion as All}
+use Rattle.std.specs.List.{AllByRecursion}
 use Rattle.model.specs.declared.rows.Row.{Row}
 use Rattle.model.specs.Energy.{NegativeSomewhere}
 use Rattle.model.specs.Limits.{row_at}
@@ -31,7 +31,7 @@ use Rattle.planning.specs.Promise.{Entered, Faithful, EveryPlanKeepsItsPromise}
 use Rattle.planning.proofs.TestsEntered.{every_load_enters_the_tests}
 use Rattle.planning.proofs.RowsKept.{swept_same}
 
-pub laws : All Lawful TES
+pub laws : AllByRecursion Lawful TES
 laws = (lawful_T, (lawful_E, (lawful_S, tt)))
 
 -- a row that was just entered has its two windows the same
@@ -66,7 +66,7 @@ calm_here : (rule : Meaning) (b : Bookings) → Calm b rule → Applies rule b Q
 calm_here rule b c = subst (λ (x : Bookings). Applies rule b Quiet x) (quiet_same rule b c.left c.applied) c.applied
 
 -- where all three are quiet, a sweep settles at once
-calm_stays : (b : Bookings) → All (Calm b) TES → SweepsTo TES b (ends_as Settled) b
+calm_stays : (b : Bookings) → AllByRecursion (Calm b) TES → SweepsTo TES b (ends_as Settled) b
 calm_stays b (t, (e, (s, _))) = (
   _,
   settles
@@ -85,7 +85,7 @@ module _ (loaded after : Bookings) (swept : Swept) (sound : SoundBookings loaded
   back : (start : ℕ → ℕ) → Placement (at_present after) start → Placement (as_entered loaded) start
   back start p = subst (λ (s : Sheet). Placement s start) (sweep_keeps TES laws sound sweeps).entered (widen after left_sound start p)
 
-  calm : swept.verdict ≡ Settled → All (Calm after) TES
+  calm : swept.verdict ≡ Settled → AllByRecursion (Calm after) TES
   calm e = settled_calm TES laws sweeps e
 
   left_inside : (k : ℕ) → k < length loaded.rows → FitsIn (row_at loaded.rows k) (row_at after.rows k).present

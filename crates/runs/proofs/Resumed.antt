@@ -1,6 +1,6 @@
 -- What a loop over the rounds of a sweep has to show.
 use Rattle.std.proofs.Common.{◌≡◌, ℕ, ◌+◌, ◌≤◌, List, ◌++◌, subst, arith}
-use Rattle.std.specs.List.{AllByRecursion as All}
+use Rattle.std.specs.List.{AllByRecursion}
 use Rattle.model.specs.Rules.{Meaning, Lawful}
 use Rattle.board.specs.declared.answers.Verdict.{Verdict}
 use Rattle.board.specs.declared.answers.Verdict.TheVariants.{Settled}
@@ -29,7 +29,7 @@ resumes_here rules b sound =
       spent = omega arith;
     }
 
-pub resumes_again : (rules : List Meaning) → All Lawful rules → (start : Bookings) (n : ℕ) (b c : Bookings) (chain : List Application) →
+pub resumes_again : (rules : List Meaning) → AllByRecursion Lawful rules → (start : Bookings) (n : ℕ) (b c : Bookings) (chain : List Application) →
     Resumes rules start n b → Passes rules b chain c → ¬ AllQuiet chain → Resumes rules start (n + 1) c
 resumes_again rules laws start n b c chain r p changed =
     record {

@@ -1,6 +1,6 @@
 -- One round of a sweep: what it keeps, and that it goes through or breaks off, in one way only.
 use Rattle.std.proofs.Common.{◌≡◌, ℕ, ◌<◌, ◌≤◌, ◌⊎◌, List, [], ◌∷◌, sym, refl, ap, ◌∙◌, subst, inl, inr, arith}
-use Rattle.std.specs.List.{AllByRecursion as All}
+use Rattle.std.specs.List.{AllByRecursion}
 use Rattle.model.specs.declared.intervals.Interval.{Interval}
 use Rattle.model.specs.Rules.{Meaning, Lawful}
 use Rattle.model.specs.Sheets.{Placement}
@@ -22,13 +22,13 @@ OfEach P = (rule : Meaning) → Lawful rule → (b : Bookings) → SoundBookings
 
 -- ---- a round that goes through
 
-pub passes_keeps : {rules : List Meaning} {b c : Bookings} {chain : List Application} → All Lawful rules → SoundBookings b → Passes rules b chain c → Kept b c
+pub passes_keeps : {rules : List Meaning} {b c : Bookings} {chain : List Application} → AllByRecursion Lawful rules → SoundBookings b → Passes rules b chain c → Kept b c
 passes_keeps {b = b} law sound done = kept_same b sound
 passes_keeps law sound (then {rule} {b = b} {b' = b'} {b'' = b''} a on more) =
     let k = applied_keeps rule law.0 b sound a in kept_both b b' b'' k (passes_keeps law.1 k.sound more)
 
 pub passes_each : (P : Application → Type 0) → OfEach P → {rules : List Meaning} {b c : Bookings} {chain : List Application} →
-    All Lawful rules → SoundBookings b → Passes rules b chain c → All P chain
+    AllByRecursion Lawful rules → SoundBookings b → Passes rules b chain c → AllByRecursion P chain
 passes_each P one law sound done = tt
 passes_each P one law sound (then {rule} {b = b} a on more) =
     (one rule law.0 b sound _ _ a, passes_each P one law.1 (applied_keeps rule law.0 b sound a).sound more)
@@ -37,7 +37,7 @@ quiet_spare : (rule : Meaning) (b c : Bookings) → Applies rule b Quiet c → s
 quiet_spare rule b c a = ap spare (quiet_same rule b c a)
 
 -- a round leaves no more to spare
-pub passes_spare : {rules : List Meaning} {b c : Bookings} {chain : List Application} → All Lawful rules → SoundBookings b → Passes rules b chain c →
+pub passes_spare : {rules : List Meaning} {b c : Bookings} {chain : List Application} → AllByRecursion Lawful rules → SoundBookings b → Passes rules b chain c →
     spare c ≤ spare b
 passes_spare law sound done = omega arith
 passes_spare law sound (then {rule} {b = b} {b' = b'} a after_narrowed more) =
@@ -46,7 +46,7 @@ passes_spare law sound (then {rule} {b = b} {b' = b'} a after_quiet more) =
     omega (arith, passes_spare law.1 (applied_keeps rule law.0 b sound a).sound more, quiet_spare rule b b' a)
 
 -- a round in which not all are quiet leaves less to spare
-pub passes_less : {rules : List Meaning} {b c : Bookings} {chain : List Application} → All Lawful rules → SoundBookings b → Passes rules b chain c →
+pub passes_less : {rules : List Meaning} {b c : Bookings} {chain : List Application} → AllByRecursion Lawful rules → SoundBookings b → Passes rules b chain c →
     ¬ AllQuiet chain → spare c < spare b
 passes_less law sound done changed = absurd (changed tt)
 passes_less law sound (then {rule} {b = b} {b' = b'} a after_narrowed more) changed =
@@ -61,24 +61,24 @@ pub record Calm (b : Bookings) (rule : Meaning) : Type 0 where
 
 -- a round in which all are quiet changes nothing, and each rule is quiet on the board
 pub passes_quiet : {rules : List Meaning} {b c : Bookings} {chain : List Application} → Passes rules b chain c → AllQuiet chain →
-    (c ≡ b) × All (Calm b) rules
+    (c ≡ b) × AllByRecursion (Calm b) rules
 passes_quiet done q = (refl, tt)
 passes_quiet (then a after_narrowed more) q = let e = q.0 in let z : ◌≡◌ {A = ℕ} 0 1 = cc in absurd (omega arith)
 passes_quiet (then {rule} {rules} {b} {b'} {b''} a after_quiet more) q =
     let (same, each) = passes_quiet more q.1 in
     let e = quiet_same rule b b' a in
-    (same ∙ e, (record { left = b'; applied = a }, subst (λ x. All (Calm x) rules) e each))
+    (same ∙ e, (record { left = b'; applied = a }, subst (λ x. AllByRecursion (Calm x) rules) e each))
 
 -- ---- a round that breaks off
 
-pub breaks_keeps : {rules : List Meaning} {b c : Bookings} {chain : List Application} {v : Verdict} → All Lawful rules → SoundBookings b →
+pub breaks_keeps : {rules : List Meaning} {b c : Bookings} {chain : List Application} {v : Verdict} → AllByRecursion Lawful rules → SoundBookings b →
     Breaks rules b chain v c → Kept b c
 breaks_keeps law sound (here {rule} {b = b} a ends) = applied_keeps rule law.0 b sound a
 breaks_keeps law sound (after {rule} {b = b} {b' = b'} {b'' = b''} a on more) =
     let k = applied_keeps rule law.0 b sound a in kept_both b b' b'' k (breaks_keeps law.1 k.sound more)
 
 pub breaks_each : (P : Application → Type 0) → OfEach P → {rules : List Meaning} {b c : Bookings} {chain : List Application} {v : Verdict} →
-    All Lawful rules → SoundBookings b → Breaks rules b chain v c → All P chain
+    AllByRecursion Lawful rules → SoundBookings b → Breaks rules b chain v c → AllByRecursion P chain
 breaks_each P one law sound (here {rule} {b = b} a ends) = (one rule law.0 b sound _ _ a, tt)
 breaks_each P one law sound (after {rule} {b = b} a on more) =
     (one rule law.0 b sound _ _ a, breaks_each P one law.1 (applied_keeps rule law.0 b sound a).sound more)
@@ -91,7 +91,7 @@ on_or_end after_quiet (at_overfull i) e = let z : ◌≡◌ {A = ℕ} 0 1 = cc i
 on_or_end after_quiet (at_squeezed k) e = let z : ◌≡◌ {A = ℕ} 0 1 = cc in omega arith
 
 -- where there is a placement, no round breaks off
-pub breaks_honest : {rules : List Meaning} {b c : Bookings} {chain : List Application} {v : Verdict} → All Lawful rules → SoundBookings b →
+pub breaks_honest : {rules : List Meaning} {b c : Bookings} {chain : List Application} {v : Verdict} → AllByRecursion Lawful rules → SoundBookings b →
     Breaks rules b chain v c → (start : ℕ → ℕ) → ¬ Placement (at_present b) start
 breaks_honest law sound (here {rule} {b = b} a ends) start p = on_or_end (applied_honest rule law.0 b sound a start p) ends refl
 breaks_honest law sound (after {rule} {b = b} a on more) start p =

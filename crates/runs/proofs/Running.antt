@@ -1,6 +1,6 @@
 -- Every run keeps its promise.
 use Rattle.std.proofs.Common.{◌≡◌, ℕ, List, Ok, Result, refl, arith}
-use Rattle.std.specs.List.{AllByRecursion as All}
+use Rattle.std.specs.List.{AllByRecursion}
 use Rattle.model.specs.declared.intervals.Interval.{Interval}
 use Rattle.model.specs.Elastic.{IsE}
 use Rattle.model.specs.Shift.{IsS}
@@ -22,7 +22,7 @@ use Rattle.runs.proofs.Swept.{sweep_keeps, sweep_each, sweep_honest, settled_cal
 use Rattle.runs.proofs.Stepping.{Placed, built_sound, built_placed, building, entering, withdrawing, rebooking, building_placed, entering_placed, withdrawing_placed, rebooking_placed}
 use Rattle.runs.proofs.Letters.{named_lawful}
 
-pub lawful_three : (r1 r2 r3 : Rule) → All Lawful (three r1 r2 r3)
+pub lawful_three : (r1 r2 r3 : Rule) → AllByRecursion Lawful (three r1 r2 r3)
 lawful_three r1 r2 r3 = (r1.lawful, (r2.lawful, (r3.lawful, tt)))
 
 pub by_letter_keeps : (letter : ℕ) (b : Bookings) → SoundBookings b → {chain : List Application} {r : Result (Effect Interval) Refusal} {c : Bookings} →
@@ -72,7 +72,7 @@ sweep_says (sweeps_squeezed letter rounds k) e = let z : ◌≡◌ {A = ℕ} 0 1
 settles_says : {s : Swept} → Settles (swept s) → s.verdict ≡ Settled
 settles_says (settled rounds) = refl
 
-among : (P : Meaning → Type 0) {r r1 r2 r3 : Rule} → SweepsWith r (sweep r1 r2 r3) → All P (three r1 r2 r3) → P r.means
+among : (P : Meaning → Type 0) {r r1 r2 r3 : Rule} → SweepsWith r (sweep r1 r2 r3) → AllByRecursion P (three r1 r2 r3) → P r.means
 among P first each = each.0
 among P second each = each.1.0
 among P third each = each.1.1.0
@@ -82,7 +82,7 @@ among P third each = each.1.1.0
 letter_keeps : (letter : ℕ) (b : Bookings) → SoundBookings b → Placed b → {chain : List Application} {r : Result (Effect Interval) Refusal} {c : Bookings} →
     AppliesByLetter letter b chain r c →
     (SaysNo (applied_by_letter r) → NoPlacement (as_entered b))
-    × All (λ a. IsE a.rule → ExactE a) chain × All (λ a. IsS a.rule → ExactS a) chain
+    × AllByRecursion (λ a. IsE a.rule → ExactE a) chain × AllByRecursion (λ a. IsS a.rule → ExactS a) chain
 letter_keeps letter b sound placed (named {rule} x a) = (
   λ no start p. letter_says no (applied_honest rule (named_lawful x) b sound a start (placed start p)),
   (applied_exact_E rule (named_lawful x) b sound a, tt),
@@ -121,7 +121,7 @@ step_keeps {b} {c} sound placed (sweeps {r1} {r2} {r3} h) =
 
 -- ---- a run
 
-run_keeps : {b c : Bookings} {events : List Event} → SoundBookings b → Placed b → Run b events c → SoundBookings c × Placed c × All EventKeeps events
+run_keeps : {b c : Bookings} {events : List Event} → SoundBookings b → Placed b → Run b events c → SoundBookings c × Placed c × AllByRecursion EventKeeps events
 run_keeps sound placed ends = (sound, placed, tt)
 run_keeps sound placed (next step more) =
     let rest = run_keeps (step_sound sound step) (step_placed sound placed step) more in

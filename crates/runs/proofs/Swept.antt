@@ -1,6 +1,6 @@
 -- A sweep: what it keeps, what its verdict means, that it ends in time, and that it has one answer only.
 use Rattle.std.proofs.Common.{◌≡◌, ℕ, zero, suc, ◌+◌, ◌<◌, ◌≤◌, List, [], ◌∷◌, ◌++◌, sym, refl, ap, subst, inl, inr, arith}
-use Rattle.std.specs.List.{AllByRecursion as All}
+use Rattle.std.specs.List.{AllByRecursion}
 use Rattle.std.proofs.ByRecursion.{All-append}
 use Rattle.model.specs.declared.intervals.Interval.{Interval}
 use Rattle.model.specs.Rules.{Meaning, Lawful}
@@ -36,7 +36,7 @@ breaks_unsettled (here a (at_overfull i)) e = let z : ◌≡◌ {A = ℕ} 0 1 = 
 breaks_unsettled (here a (at_squeezed k)) e = let z : ◌≡◌ {A = ℕ} 0 1 = cc in omega arith
 breaks_unsettled (after a on more) e = breaks_unsettled more e
 
-module _ (rules : List Meaning) (laws : All Lawful rules) where
+module _ (rules : List Meaning) (laws : AllByRecursion Lawful rules) where
   pub sweep_keeps : {b c : Bookings} {chain : List Application} {s : Swept} → SoundBookings b → Sweeps rules b chain s c → Kept b c
   sweep_keeps sound (settles p quiet) = passes_keeps laws sound p
   sweep_keeps sound (again {b} {b'} {b''} p changed more) =
@@ -45,7 +45,7 @@ module _ (rules : List Meaning) (laws : All Lawful rules) where
 
   -- what holds of each application holds along the chain
   pub sweep_each : (P : Application → Type 0) → OfEach P → {b c : Bookings} {chain : List Application} {s : Swept} →
-      SoundBookings b → Sweeps rules b chain s c → All P chain
+      SoundBookings b → Sweeps rules b chain s c → AllByRecursion P chain
   sweep_each P one sound (settles p quiet) = passes_each P one laws sound p
   sweep_each P one sound (again {chain = chain} {more = more} p changed rest) =
       All-append P chain more (passes_each P one laws sound p) (sweep_each P one (passes_keeps laws sound p).sound rest)
@@ -60,9 +60,9 @@ module _ (rules : List Meaning) (laws : All Lawful rules) where
   sweep_honest sound (fails p) start x = absurd (breaks_honest laws sound p start x)
 
   -- where the verdict is settled, each rule is quiet on the board left
-  pub settled_calm : {b c : Bookings} {chain : List Application} {s : Swept} → Sweeps rules b chain s c → s.verdict ≡ Settled → All (Calm c) rules
+  pub settled_calm : {b c : Bookings} {chain : List Application} {s : Swept} → Sweeps rules b chain s c → s.verdict ≡ Settled → AllByRecursion (Calm c) rules
   settled_calm (settles p quiet) e =
-      let (same, each) = passes_quiet p quiet in subst (λ x. All (Calm x) rules) (sym same) each
+      let (same, each) = passes_quiet p quiet in subst (λ x. AllByRecursion (Calm x) rules) (sym same) each
   settled_calm (again p changed more) e = settled_calm more e
   settled_calm (fails p) e = absurd (breaks_unsettled p e)
 

@@ -1,6 +1,6 @@
 -- What every run of calls keeps.
 use Rattle.std.specs.Prelude.{◌≡◌, ℕ, ◌+◌, ◌≤◌, ◌↔◌, List, Ok}
-use Rattle.std.specs.List.{AllByRecursion as All}
+use Rattle.std.specs.List.{AllByRecursion}
 use Rattle.model.specs.declared.intervals.Interval.{Interval}
 use Rattle.model.specs.Sheets.{Placement, NoPlacement, Elastic, Tight, capacity_max}
 use Rattle.model.specs.Energy.{NegativeSomewhere}
@@ -55,9 +55,9 @@ pub record EventKeeps (event : Event) : Type 0 where
   -- overfull and squeezed are answered only where the windows as entered by then have no placement
   pub honest : SaysNo event.reply → NoPlacement (as_entered event.before)
   -- each time E is applied, alone or within a sweep, it is exact
-  pub exact_E : All (λ a. IsE a.rule → ExactE a) event.applications
+  pub exact_E : AllByRecursion (λ a. IsE a.rule → ExactE a) event.applications
   -- each time S is applied, alone or within a sweep, it is exact
-  pub exact_S : All (λ a. IsS a.rule → ExactS a) event.applications
+  pub exact_S : AllByRecursion (λ a. IsS a.rule → ExactS a) event.applications
   -- a sweep with E among its rules that settles leaves windows whose ends elastic schedules reach
   pub tight : (rule : Rule) → IsE rule.means → SweepsWith rule event.call → Settles event.reply → Tight (at_present event.after)
 
@@ -68,7 +68,7 @@ SamePlacements b = (start : ℕ → ℕ) → Placement (as_entered b) start ↔ 
 -- After every run from a newly built board, the board is within the limits, no placement is lost, and every call kept its promise.
 abbrev pub EveryRunKeepsItsPromise : Type 0
 EveryRunKeepsItsPromise = (capacity : ℕ) → 1 ≤ capacity → capacity ≤ capacity_max →
-    (events : List Event) (b : Bookings) → Run (built capacity) events b → SoundBookings b × SamePlacements b × All EventKeeps events
+    (events : List Event) (b : Bookings) → Run (built capacity) events b → SoundBookings b × SamePlacements b × AllByRecursion EventKeeps events
 
 -- Every call on every board has a step, and one only.
 abbrev pub EveryCallHasOneStep : Type 0

@@ -1,6 +1,6 @@
 -- Sweep: rounds of the same rules, until one of them fails or all of them are quiet.
 use Rattle.std.specs.Prelude.{◌≡◌, ℕ, ◌+◌, ◌-◌, List, [], ◌∷◌, ◌++◌, length}
-use Rattle.std.specs.List.{AllByRecursion as All}
+use Rattle.std.specs.List.{AllByRecursion}
 use Rattle.model.specs.declared.intervals.Interval.{Interval}
 use Rattle.model.specs.declared.rows.Row.{Row}
 use Rattle.model.specs.Limits.{row_at}
@@ -49,7 +49,7 @@ pub data Breaks : List Meaning → Bookings → List Application → Verdict →
 
 -- Each of the applications was quiet.
 abbrev pub AllQuiet : List Application → Type 0
-AllQuiet chain = All (λ a. a.effect ≡ Quiet) chain
+AllQuiet chain = AllByRecursion (λ a. a.effect ≡ Quiet) chain
 
 -- The answer of a sweep that ends in this round, and of one that ends in a later round.
 abbrev pub ends_as : Verdict → Swept

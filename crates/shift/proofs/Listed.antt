@@ -1,6 +1,6 @@
 -- The list of candidates has every candidate, and nothing else that is an interval.
 use Rattle.std.proofs.Common.{◌≡◌, ℕ, ◌+◌, ◌-◌, ◌<◌, ◌≤◌, Bool, true, false, ◌⊎◌, List, [], ◌∷◌, ◌++◌, Some, None, Option, sym, refl, ◌∙◌, inl, inr, arith}
-use Rattle.std.specs.List.{AllByRecursion as All}
+use Rattle.std.specs.List.{AllByRecursion}
 use Rattle.std.proofs.ByRecursion.{All-append, All-get_or, All-from_get_or, All-weaker}
 use Rattle.std.proofs.lemmas.Bool.Decides.{nat_tests}
 use Rattle.std.proofs.lemmas.Bool.{cases_lt, cond_both, false≢true}
@@ -12,16 +12,16 @@ use Rattle.model.specs.Rules.{NoLater}
 use Rattle.shift.specs.Meaning.{from_start, to_end, made_by, gather, candidates, no_later?, sooner, first_that, greatest}
 
 -- ---- gathered lists
-all_split : (P : Interval → Type 0) (xs ys : List Interval) → All P (xs ++ ys) → All P xs × All P ys
+all_split : (P : Interval → Type 0) (xs ys : List Interval) → AllByRecursion P (xs ++ ys) → AllByRecursion P xs × AllByRecursion P ys
 all_split P [] ys h = (tt, h)
 all_split P (x ∷ xs) ys h = let (front, back) = all_split P xs ys h.1 in ((h.0, front), back)
 
-all_gather : (P : Interval → Type 0) (f : Entry → List Interval) (es : List Entry) → All (λ e. All P (f e)) es → All P (gather f es)
+all_gather : (P : Interval → Type 0) (f : Entry → List Interval) (es : List Entry) → AllByRecursion (λ e. AllByRecursion P (f e)) es → AllByRecursion P (gather f es)
 unfolding gather
 all_gather P f [] h = tt
 all_gather P f (e ∷ es) h = All-append P (f e) (gather f es) h.0 (all_gather P f es h.1)
 
-gather_all : (P : Interval → Type 0) (f : Entry → List Interval) (es : List Entry) → All P (gather f es) → All (λ e. All P (f e)) es
+gather_all : (P : Interval → Type 0) (f : Entry → List Interval) (es : List Entry) → AllByRecursion P (gather f es) → AllByRecursion (λ e. AllByRecursion P (f e)) es
 unfolding gather
 gather_all P f [] h = tt
 gather_all P f (e ∷ es) h = let (front, back) = all_split P (f e) (gather f es) h in (front, gather_all P f es back)
@@ -30,7 +30,7 @@ gather_all P f (e ∷ es) h = let (front, back) = all_split P (f e) (gather f es
 
 -- P holds of the intervals of a list.
 abbrev pub HoldsOn : (ℕ → ℕ → Type 0) → List Interval → Type 0
-HoldsOn P = All (λ i. P i.t1 i.t2)
+HoldsOn P = AllByRecursion (λ i. P i.t1 i.t2)
 
 module _ (P : ℕ → ℕ → Type 0) (b : Entry) where
   at_end : (t1 : ℕ) → HoldsOn P (from_start t1 b) → (t2 : ℕ) → Ends t2 b → P t1 t2
@@ -169,8 +169,8 @@ no_later_on i j v (inr a) (inr b) = inr (omega arith, omega arith)
 module _ (test : Interval → Bool) (P : Interval → Type 0) where
   -- The first of those that pass has P, and none that passes comes before it; or none passes.
   abbrev pub FirstIn : List Interval → Option Interval → Type 0
-  FirstIn is (Some i) = P i × All (λ j. test j ≡ true → NoLater i j.t1 j.t2) is
-  FirstIn is None = All (λ j. ¬ (test j ≡ true)) is
+  FirstIn is (Some i) = P i × AllByRecursion (λ j. test j ≡ true → NoLater i j.t1 j.t2) is
+  FirstIn is None = AllByRecursion (λ j. ¬ (test j ≡ true)) is
 
   beside : (i : Interval) (is : List Interval) (o : Option Interval) → P i → FirstIn is o → FirstIn (i ∷ is) (sooner i o)
   beside i is None p f = (p, (λ e. no_later_itself i, All-weaker _ _ (λ j n e. absurd (n e)) is f))
@@ -183,7 +183,7 @@ module _ (test : Interval → Bool) (P : Interval → Type 0) where
   passed_over i is None e f = (λ t. false≢true (sym e ∙ t), f)
   passed_over i is (Some j) e f = (f.0, (λ t. absurd (false≢true (sym e ∙ t)), f.1))
 
-  pub first_in : (is : List Interval) → All (λ i. test i ≡ true → P i) is → FirstIn is (first_that test is)
+  pub first_in : (is : List Interval) → AllByRecursion (λ i. test i ≡ true → P i) is → FirstIn is (first_that test is)
   unfolding first_that
   first_in [] h = tt
   first_in (i ∷ is) h =
@@ -198,12 +198,12 @@ module _ (f : Interval → ℕ) (n : ℕ) where
   greatest_low [] = omega arith
   greatest_low (i ∷ is) = omega (arith, greatest_low is)
 
-  pub greatest_above : (is : List Interval) → All (λ i. f i ≤ greatest f n is) is
+  pub greatest_above : (is : List Interval) → AllByRecursion (λ i. f i ≤ greatest f n is) is
   unfolding greatest
   greatest_above [] = tt
   greatest_above (i ∷ is) = (omega arith, All-weaker _ _ (λ j l. omega arith) is (greatest_above is))
 
-  pub greatest_reached : (Q : Interval → Type 0) (is : List Interval) → All Q is →
+  pub greatest_reached : (Q : Interval → Type 0) (is : List Interval) → AllByRecursion Q is →
       (greatest f n is ≡ n) ⊎ ((i : Interval) × Q i × (greatest f n is ≡ f i))
   unfolding greatest
   greatest_reached Q [] h = inl refl

@@ -1,6 +1,6 @@
 -- What a pair of entries makes, point by point.
 use Rattle.std.proofs.Common.{ℕ, ◌+◌, ◌-◌, List, [], ◌∷◌, ◌++◌}
-use Rattle.std.specs.List.{AllByRecursion as All}
+use Rattle.std.specs.List.{AllByRecursion}
 use Rattle.std.proofs.ByRecursion.{All-append}
 use Rattle.model.specs.declared.entries.Entry.{Entry}
 use Rattle.model.specs.declared.intervals.Interval.{Interval}
@@ -16,8 +16,8 @@ module _ (P : Interval → Type 0) (a b : Entry) where
   abbrev ends : List Interval
   ends = to_end a.deadline b ∷ (to_end early b ∷ (to_end late b ∷ []))
 
-  pub from_points : All P (from_start a.release b) → All P (from_start late b) → All P (from_start early b) →
-      P (to_end a.deadline b) → P (to_end early b) → P (to_end late b) → All P (made_by a b)
+  pub from_points : AllByRecursion P (from_start a.release b) → AllByRecursion P (from_start late b) → AllByRecursion P (from_start early b) →
+      P (to_end a.deadline b) → P (to_end early b) → P (to_end late b) → AllByRecursion P (made_by a b)
   from_points first second third fourth fifth sixth =
       All-append P (from_start a.release b) (from_start late b ++ (from_start early b ++ ends)) first
       (All-append P (from_start late b) (from_start early b ++ ends) second

@@ -1,6 +1,6 @@
 -- What a pass over candidates has found, and which intervals it has accounted for.
 use Rattle.std.specs.Prelude.{◌≡◌, ℕ, ◌+◌, ◌-◌, ◌<◌, ◌≤◌, ◌⊎◌, List, length, Some, None, Option, slice_index}
-use Rattle.std.specs.List.{AllByRecursion as All}
+use Rattle.std.specs.List.{AllByRecursion}
 use Rattle.model.specs.declared.intervals.Interval.{Interval}
 use Rattle.model.specs.Sheets.{Sheet, count, entry, rows_max}
 use Rattle.model.specs.Energy.{IsInterval, Candidate, NegativeSlack, ForcedEnd, lack, ceiling}
@@ -47,11 +47,11 @@ pub record Onward (s : Sheet) (v w : Survey) : Type 0 where
 
 -- Of a list, what is an interval is a candidate.
 abbrev pub AllCandidates : Sheet → List Interval → Type 0
-AllCandidates s = All (λ i. IsInterval i.t1 i.t2 → Candidate s i.t1 i.t2)
+AllCandidates s = AllByRecursion (λ i. IsInterval i.t1 i.t2 → Candidate s i.t1 i.t2)
 
 -- All of a list are accounted for.
 abbrev pub AllAccounted : Sheet → Survey → List Interval → Type 0
-AllAccounted s v = All (λ i. Accounted s v i.t1 i.t2)
+AllAccounted s v = AllByRecursion (λ i. Accounted s v i.t1 i.t2)
 
 -- All intervals from t1 to an end point of an entry, or to its partner there, are accounted for.
 abbrev pub AccountedFrom : Sheet → Survey → ℕ → Type 0

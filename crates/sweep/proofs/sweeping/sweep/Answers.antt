@@ -1,6 +1,6 @@
 -- A round that narrows goes on from the board that it left; a round that breaks off, or in which all are quiet, is the last.
 use Rattle.std.proofs.Common.{[], ◌∷◌, arith}
-use Rattle.std.specs.List.{AllByRecursion as All}
+use Rattle.std.specs.List.{AllByRecursion}
 use Rattle.model.specs.Rules.{Lawful}
 use Rattle.board.specs.Held.{bookings}
 use Rattle.runs.proofs.OneRun.{every_list_of_calls_has_one_run}
@@ -28,7 +28,7 @@ loop-verdict-preserved g c =
     let y = c.args.y.now in
     let z = c.args.z.now in
     let rules = g.X.Rule.means x ∷ (g.Y.Rule.means y ∷ (g.Z.Rule.means z ∷ [])) in
-    let laws : All Lawful rules = (
+    let laws : AllByRecursion Lawful rules = (
       record { proper = g.X.Rule.proper x; refutes = g.X.Rule.refutes x; never_before = g.X.Rule.bounds x },
       (
         record { proper = g.Y.Rule.proper y; refutes = g.Y.Rule.refutes y; never_before = g.Y.Rule.bounds y },
@@ -45,7 +45,7 @@ loop-verdict-smaller g c =
     let y = c.args.y.now in
     let z = c.args.z.now in
     let rules = g.X.Rule.means x ∷ (g.Y.Rule.means y ∷ (g.Z.Rule.means z ∷ [])) in
-    let laws : All Lawful rules = (
+    let laws : AllByRecursion Lawful rules = (
       record { proper = g.X.Rule.proper x; refutes = g.X.Rule.refutes x; never_before = g.X.Rule.bounds x },
       (
         record { proper = g.Y.Rule.proper y; refutes = g.Y.Rule.refutes y; never_before = g.Y.Rule.bounds y },

@@ -3,7 +3,7 @@ use Rattle.records.specs.Reading.{spot, said_by}
 use Rattle.records.proofs.Begins.{test_begins}
 use Rattle.campaign.specs.Loads.{noted, tested, unread, refused}
 use Rattle.campaign.proofs.Refused.{enter_refused}
-use Rattle.campaign.proofs.records.enter_record.Goals as goal
+use Rattle.campaign.proofs.entering.enter_record.Goals as goal
 
 pub returns-in-Err : goal.returns-in-Err
 returns-in-Err c = unread _ c.in-Err.ensures.0

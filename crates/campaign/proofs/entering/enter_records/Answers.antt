@@ -1,7 +1,7 @@
 use Rattle.std.proofs.Common.{add-one}
 use Rattle.std.proofs.lemmas.Result.{err_from_is_err_and}
 use Rattle.campaign.specs.Loads.{none, more, at_record}
-use Rattle.campaign.proofs.records.enter_records.Goals as goal
+use Rattle.campaign.proofs.entering.enter_records.Goals as goal
 
 pub loop-i-init : goal.loop-i-init
 loop-i-init c = none
