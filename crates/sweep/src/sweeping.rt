@@ -27,7 +27,7 @@ pub fn sweep<X: Rule, Y: Rule, Z: Rule>(board: &mut Board, x: &X, y: &Y, z: &Z) 
             },
             Outcome::Quiet => return Swept {
                 verdict: Verdict::Settled,
-                rounds: 1 + passed,
+                rounds: passed + 1,
             },
             Outcome::Narrowed => passed += 1,
         }
