@@ -26,4 +26,4 @@ pub data Plans (file : List ℕ) (before : Bookings) : List ℕ → Bookings →
 -- What a board holds after a plan whose text was written, or refused: a refused plan leaves the board as it was.
 abbrev pub held_after : Result ℕ Refusal → Bookings → Bookings → Bookings
 held_after (Ok n) before after = after
-held_after (Err short) before after = before
+held_after (Err refusal) before after = before
