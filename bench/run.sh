@@ -13,10 +13,10 @@ fi
 out=target/bench
 mkdir -p "$out"
 
-rt check plan >"$out/check.log" 2>&1 || { tail -n 20 "$out/check.log"; exit 1; }
+(cd crates/plan && rt run) <samples/three.campaign >"$out/check.log" 2>&1 || { tail -n 20 "$out/check.log"; exit 1; }
 rustc -O -o "$out/baseline" bench/baseline.rs
 python3 bench/make.py "$out"
-python3 bench/measure.py target/bin/plan "$out/baseline" "$out" "${1-21}" | tee "$out/table.md"
+python3 bench/measure.py crates/plan/out/plan "$out/baseline" "$out" "${1-21}" | tee "$out/table.md"
 if [ -n "$docs" ]; then
     python3 bench/plot.py "$out/table.md" docs/performance.svg docs/PERFORMANCE.md
 fi

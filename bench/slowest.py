@@ -3,8 +3,9 @@
 
     bench/slowest.py [--rows N] [CRATE ...]
 
-Run it in the repository's root; with no crate it takes all of crates.txt. A crate is proved by `rt dev CRATE --progress` once what
-earlier runs kept of it (target/inc/CRATE) is removed; what it depends on is proved before, if it is not yet. The prover prints a
+Run it in the repository's root; with no crate it takes all of crates.txt. A crate is proved by `rt check` in its folder once what
+earlier checks kept of it (crates/CRATE/out) is removed; what it depends on is proved before, if it is not yet. A check begins with what
+checks of other checkouts on the machine kept, so use it where this is the only one. The prover prints a
 line as it ends with each function's proof, and a function's time is the gap to the line before. It is processor time of the
 prover, in seconds and with one job, so that what else the machine does matters little. A row `(start) F` has all that comes before
 the first line: the libraries are read, and F is proved. The row `(end)` has what comes after the last. What functions share, such
@@ -47,12 +48,11 @@ def spent(root):
     return total
 
 
-def prove(crate, environment):
+def prove(crate):
     """The rows (seconds, crate, function) of a crate."""
-    shutil.rmtree(pathlib.Path("target/inc") / crate, ignore_errors=True)
-    run = subprocess.Popen(
-        ["rt", "dev", crate, "--progress"], env=environment, stdout=subprocess.PIPE, stderr=subprocess.STDOUT, text=True
-    )
+    folder = pathlib.Path("crates") / crate
+    shutil.rmtree(folder / "out", ignore_errors=True)
+    run = subprocess.Popen(["rt", "check", "--jobs", "1"], cwd=folder, stdout=subprocess.PIPE, stderr=subprocess.STDOUT, text=True)
     rows, before, has_ended, verdict = [], 0.0, False, "no verdict"
     for line in run.stdout:
         match = LINE.match(line.rstrip())
@@ -73,10 +73,9 @@ def main():
     count = ROWS
     if words[:1] == ["--rows"]:
         count, words = int(words[1]), words[2:]
-    environment = dict(os.environ, RT_JOBS="1")
     rows = []
     for crate in words or listed():
-        rows += prove(crate, environment)
+        rows += prove(crate)
     for seconds, crate, name in sorted(rows, reverse=True)[:count]:
         print(f"{seconds:8.1f}  {crate:16} {name}")
 

@@ -1,6 +1,6 @@
 """Random small campaigns, some damaged: what the program `campaigns` prints is compared with the reckoning.
 
-    rt check campaigns && python3 reckon/fuzz.py SEED SECONDS
+    (cd crates/campaigns && rt run </dev/null) && python3 reckon/fuzz.py SEED SECONDS
 """
 import random
 import subprocess
@@ -48,7 +48,7 @@ def batch():
 def printed(cases):
     """What the program prints for each file."""
     lines = "".join(f"# {n}\n{file.hex(' ')}\n" for n, (file, _) in enumerate(cases))
-    run = subprocess.run(["target/bin/campaigns"], input=lines.encode(), capture_output=True, check=True)
+    run = subprocess.run(["crates/campaigns/out/campaigns"], input=lines.encode(), capture_output=True, check=True)
     return [part.split("\n", 1)[1] for part in run.stdout.decode().split("# ")[1:]]
 
 
