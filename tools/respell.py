@@ -38,10 +38,10 @@ def declared():
 
 
 def respelt(name):
-    parts = [p for p in name.split("-") if p]
     if name[0].isupper():
+        parts = [p for p in re.split("[-_]", name) if p]
         return "".join(p[0].upper() + p[1:] for p in parts)
-    return "_".join(parts)
+    return "_".join(p for p in name.split("-") if p)
 
 
 def code_and_comment(line, mark):
@@ -77,7 +77,7 @@ def turn(text, names, mark):
 
 def main():
     own, made = declared()
-    dashed = sorted(n for n in own if "-" in n and n not in made)
+    dashed = sorted(n for n in own if n not in made and ("-" in n or n[0].isupper() and "_" in n))
     new = collections.defaultdict(list)
     for n in dashed:
         new[respelt(n)].append(n)

@@ -14,7 +14,7 @@ use Rattle.board.specs.Calls.{Bookings, SoundBookings}
 use Rattle.elastic.proofs.Law.{e_is_exact, settled_windows_are_tight}
 use Rattle.shift.proofs.RuleS.{s_is_exact}
 use Rattle.runs.specs.Applying.{as_entered, at_present, number, Applies, finds, squeezes, narrows, rests}
-use Rattle.runs.specs.Sweeping.{application, Goes_on, after_narrowed, after_quiet}
+use Rattle.runs.specs.Sweeping.{application, GoesOn, after_narrowed, after_quiet}
 use Rattle.runs.specs.Promise.{IsOverfull, told, ExactE, ExactS}
 use Rattle.runs.proofs.Boards.{present_count, present_at, present_sound}
 use Rattle.runs.proofs.RuleFigures.{figures_hold}
@@ -46,7 +46,7 @@ module _ (rule : Meaning) (law : Lawful rule) (b : Bookings) (sound : SoundBooki
   applied_keeps (rests none wide same) = kept_same b sound
 
   -- overfull and squeezed are answered only where there is no placement
-  pub applied_honest : {e : Effect Interval} {c : Bookings} → Applies rule b e c → (start : ℕ → ℕ) → Placement (at_present b) start → Goes_on e
+  pub applied_honest : {e : Effect Interval} {c : Bookings} → Applies rule b e c → (start : ℕ → ℕ) → Placement (at_present b) start → GoesOn e
   applied_honest (finds i ev) start p = absurd (law.refutes (at_present b) (present_sound b sound) i ev start p)
   applied_honest (squeezes none k l short first) start p =
       let l' : k < count (at_present b) = rw (present_count b) l in

@@ -10,7 +10,7 @@ use Rattle.board.specs.declared.answers.Verdict.{Verdict}
 use Rattle.board.specs.declared.answers.Verdict.TheVariants as verdict
 use Rattle.board.specs.Calls.{Bookings, SoundBookings}
 use Rattle.runs.specs.Applying.{at_present, Applies}
-use Rattle.runs.specs.Sweeping.{Application, application, Goes_on, after_narrowed, after_quiet, EndsWith, at_overfull, at_squeezed, Passes, done, then, Breaks, here, after, AllQuiet, spare}
+use Rattle.runs.specs.Sweeping.{Application, application, GoesOn, after_narrowed, after_quiet, EndsWith, at_overfull, at_squeezed, Passes, done, then, Breaks, here, after, AllQuiet, spare}
 use Rattle.runs.proofs.Applied.{Kept, kept_same, kept_both, applied_keeps, applied_honest}
 use Rattle.runs.proofs.Once.{applies_once, applies_unique}
 use Rattle.runs.proofs.Spare.{narrowed_less, quiet_same}
@@ -84,7 +84,7 @@ breaks_each P one law sound (after {rule} {b = b} a on more) =
     (one rule law.0 b sound _ _ a, breaks_each P one law.1 (applied_keeps rule law.0 b sound a).sound more)
 
 -- an effect does not both end a sweep and let it go on
-pub on_or_end : {letter : ℕ} {e f : Effect Interval} {v : Verdict} → Goes_on e → EndsWith letter f v → e ≡ f → ⊥
+pub on_or_end : {letter : ℕ} {e f : Effect Interval} {v : Verdict} → GoesOn e → EndsWith letter f v → e ≡ f → ⊥
 on_or_end after_narrowed (at_overfull i) e = let z : ◌≡◌ {A = ℕ} 0 1 = cc in omega arith
 on_or_end after_narrowed (at_squeezed k) e = let z : ◌≡◌ {A = ℕ} 0 1 = cc in omega arith
 on_or_end after_quiet (at_overfull i) e = let z : ◌≡◌ {A = ℕ} 0 1 = cc in omega arith
@@ -110,7 +110,7 @@ pub record Broken (rules : List Meaning) (b : Bookings) : Type 0 where
   pub left : Bookings
   pub breaks : Breaks rules b chain verdict left
 
-on_through : (rule : Meaning) (rules : List Meaning) (b c : Bookings) (e : Effect Interval) → Applies rule b e c → Goes_on e →
+on_through : (rule : Meaning) (rules : List Meaning) (b c : Bookings) (e : Effect Interval) → Applies rule b e c → GoesOn e →
     Through rules c ⊎ Broken rules c → Through (rule ∷ rules) b ⊎ Broken (rule ∷ rules) b
 on_through rule rules b c e a on (inl t) =
     inl (record { chain = application rule b e ∷ t.chain; left = t.left; passes = then a on t.passes })

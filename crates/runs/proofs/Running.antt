@@ -12,7 +12,7 @@ use Rattle.board.specs.declared.answers.Swept.{Swept}
 use Rattle.board.specs.declared.refusals.Refusal.{Refusal}
 use Rattle.board.specs.Calls.{Bookings, SoundBookings}
 use Rattle.runs.specs.Applying.{as_entered}
-use Rattle.runs.specs.Sweeping.{Application, Goes_on}
+use Rattle.runs.specs.Sweeping.{Application, GoesOn}
 use Rattle.runs.specs.Runs.{Rule, three, AppliesByLetter, named, unnamed, Call, sweep, Reply, applied, applied_by_letter, swept, Step, builds, enters, withdraws, rebooks, applies, applies_by_letter, sweeps, Event, Run, ends, next}
 use Rattle.runs.specs.Promise.{Fails, overfull, squeezed, SaysNo, by_apply, by_letter, sweeps_overfull, sweeps_squeezed, Settles, settled, SweepsWith, first, second, third, ExactE, ExactS, EventKeeps, EveryRunKeepsItsPromise}
 use Rattle.runs.proofs.Boards.{widen}
@@ -55,14 +55,14 @@ step_placed {b} {c} sound placed (sweeps {r1} {r2} {r3} h) = kept_placed b c pla
 
 -- ---- what the answers say
 
-fails_on : {e : Effect Interval} → Fails e → Goes_on e → ⊥
+fails_on : {e : Effect Interval} → Fails e → GoesOn e → ⊥
 fails_on (overfull i) on = elim on [ ]
 fails_on (squeezed k) on = elim on [ ]
 
-apply_says : {e : Effect Interval} → SaysNo (applied e) → Goes_on e → ⊥
+apply_says : {e : Effect Interval} → SaysNo (applied e) → GoesOn e → ⊥
 apply_says (by_apply e f) on = fails_on f on
 
-letter_says : {e : Effect Interval} → SaysNo (applied_by_letter (Ok e)) → Goes_on e → ⊥
+letter_says : {e : Effect Interval} → SaysNo (applied_by_letter (Ok e)) → GoesOn e → ⊥
 letter_says (by_letter e f) on = fails_on f on
 
 sweep_says : {s : Swept} → SaysNo (swept s) → s.verdict ≡ Settled → ⊥

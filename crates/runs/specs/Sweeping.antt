@@ -24,9 +24,9 @@ abbrev pub application : Meaning → Bookings → Effect Interval → Applicatio
 application rule b e = record { rule = rule; found = b; effect = e }
 
 -- An effect after which a sweep goes on: narrowed or quiet.
-pub data Goes_on : Effect Interval → Type 0 where
-  after_narrowed : Goes_on Narrowed
-  after_quiet : Goes_on Quiet
+pub data GoesOn : Effect Interval → Type 0 where
+  after_narrowed : GoesOn Narrowed
+  after_quiet : GoesOn Quiet
 
 -- An effect that ends a sweep, overfull or squeezed, and the verdict with the rule's letter.
 pub data EndsWith (letter : ℕ) : Effect Interval → Verdict → Type 0 where
@@ -38,14 +38,14 @@ pub data EndsWith (letter : ℕ) : Effect Interval → Verdict → Type 0 where
 pub data Passes : List Meaning → Bookings → List Application → Bookings → Type 0 where
   done : {b : Bookings} → Passes [] b [] b
   then : {rule : Meaning} {rules : List Meaning} {b b' b'' : Bookings} {e : Effect Interval} {chain : List Application} →
-      Applies rule b e b' → Goes_on e → Passes rules b' chain b'' → Passes (rule ∷ rules) b (application rule b e ∷ chain) b''
+      Applies rule b e b' → GoesOn e → Passes rules b' chain b'' → Passes (rule ∷ rules) b (application rule b e ∷ chain) b''
 
 -- A round that breaks off: after some rules that are narrowed or quiet, one answers overfull or squeezed, and the others are not applied.
 pub data Breaks : List Meaning → Bookings → List Application → Verdict → Bookings → Type 0 where
   here : {rule : Meaning} {rules : List Meaning} {b b' : Bookings} {e : Effect Interval} {v : Verdict} →
       Applies rule b e b' → EndsWith rule.letter e v → Breaks (rule ∷ rules) b (application rule b e ∷ []) v b'
   after : {rule : Meaning} {rules : List Meaning} {b b' b'' : Bookings} {e : Effect Interval} {chain : List Application} {v : Verdict} →
-      Applies rule b e b' → Goes_on e → Breaks rules b' chain v b'' → Breaks (rule ∷ rules) b (application rule b e ∷ chain) v b''
+      Applies rule b e b' → GoesOn e → Breaks rules b' chain v b'' → Breaks (rule ∷ rules) b (application rule b e ∷ chain) v b''
 
 -- Each of the applications was quiet.
 abbrev pub AllQuiet : List Application → Type 0
