@@ -2,7 +2,7 @@
 ghost use Rattle.std.specs.Prelude.{◌≡◌, ℕ, ◌+◌, ◌-◌, ◌*◌, ◌<◌, ◌≤◌, min};
 ghost use Rattle.model.specs.Sheets.{Sound, rows_max};
 ghost use Rattle.shift_rule.specs.Forced.{sheet_of};
-ghost use Rattle.shift_rule.specs.Ramps.{From, To, Low, climbed as on-ramps};
+ghost use Rattle.shift_rule.specs.Ramps.{From, To, Low, climbed as on_ramps};
 
 use crate::energies::{left_part, right_part};
 use crate::ramps::Ramps;
@@ -29,7 +29,7 @@ fn push(ramps: &mut Ramps, offset: u16, length: u16, demand: u16)
     requires small { demand * length ≤ 16511040 }
     ensures low { Low ramps.new }
     ensures count { ramps.new.count ≤ ramps.old.count + 1 }
-    ensures climbs { (far : ℕ) → on-ramps ramps.new far ≡ on-ramps ramps.old far + demand * min (far - offset) length }
+    ensures climbs { (far : ℕ) → on_ramps ramps.new far ≡ on_ramps ramps.old far + demand * min (far - offset) length }
 {
     if length == 0 {
         return;
@@ -81,7 +81,7 @@ pub(crate) fn ramps_to(capacity: u16, entries: &[Entry], t2: u16) -> Ramps
 // The energies at a distance on all ramps. Past the last ramp nothing climbs, so that whole groups of eight can be added.
 pub(crate) fn climbed(ramps: &Ramps, far: u16) -> u32
     requires { Low ramps.now }
-    ensures { result ≡ on-ramps ramps.now far }
+    ensures { result ≡ on_ramps ramps.now far }
 {
     let mut sum: u32 = 0;
     for k in 0..(ramps.count + 7) / 8 * 8 {

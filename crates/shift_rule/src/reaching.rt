@@ -2,7 +2,7 @@
 ghost use Rattle.std.specs.Prelude.{◌≡◌, ℕ, ◌<◌, ◌≤◌, length, slice_index_or};
 ghost use Rattle.model.specs.Sheets.{Sound, SoundEntry, entry, rows_max};
 ghost use Rattle.shift_rule.specs.Forced.{sheet_of};
-ghost use Rattle.shift_rule.specs.Leeways.{leeway as leeway-of, Enough, ListsMovers, EnoughAround, no_reach, sheet_in, Known};
+ghost use Rattle.shift_rule.specs.Leeways.{leeway as leeway_of, Enough, ListsMovers, EnoughAround, no_reach, sheet_in, Known};
 
 use crate::energies::right_part;
 use crate::leeways::{Movers, Reach};
@@ -12,7 +12,7 @@ use model::entries::Entry;
 // The leeway of an entry at t2.
 fn leeway(capacity: u16, e: Entry, t2: u16) -> u32
     requires { SoundEntry capacity e }
-    ensures { result ≡ leeway-of e t2 }
+    ensures { result ≡ leeway_of e t2 }
 {
     let after_late = e.duration - right_part(e, t2);
     let after_early = (e.release + e.duration).saturating_sub(t2);
@@ -64,7 +64,7 @@ fn reaches(capacity: u16, entries: &[Entry], movers: &Movers) -> [Reach; 64]
 // The leeway of an entry is nowhere greater than its demand in the slots that it has to spare, or in all that it runs.
 fn widest(capacity: u16, e: Entry) -> u32
     requires { SoundEntry capacity e }
-    ensures { (t2 : ℕ) → leeway-of e t2 ≤ result }
+    ensures { (t2 : ℕ) → leeway_of e t2 ≤ result }
 {
     let spare = e.deadline - (e.release + e.duration);
     e.demand as u32 * e.duration.min(spare) as u32

@@ -1,7 +1,7 @@
 // What one interval adds to what was found.
 ghost use Rattle.std.specs.Prelude.{◌≡◌, ℕ, ◌+◌, ◌-◌, ◌*◌, ◌<◌, ◌≤◌, max, length, MatchBool, slice_index};
 ghost use Rattle.model.specs.Sheets.{count, entry};
-ghost use Rattle.model.specs.Energy.{IsInterval, Candidate, energy as all-energy};
+ghost use Rattle.model.specs.Energy.{IsInterval, Candidate, energy as all_energy};
 ghost use Rattle.shift_rule.specs.Forced.{start_after};
 ghost use Rattle.shift_rule.specs.Leeways.{Enough, Known, sheet_in};
 ghost use Rattle.shift_rule.specs.Ramps.{Low, climbed};
@@ -48,7 +48,7 @@ fn weigh(subject: &Subject, ramps: &Ramps, reach: u32, t1: u16, t2: u16, found: 
     requires known { Known subject.now }
     requires enough { Enough (sheet_in subject.now) t2 reach }
     requires low { Low ramps.now }
-    requires energies { climbed ramps.now (t2 - t1) ≡ all-energy (sheet_in subject.now) t1 t2 }
+    requires energies { climbed ramps.now (t2 - t1) ≡ all_energy (sheet_in subject.now) t1 t2 }
     requires right { Right (sheet_in subject.now) found.old }
     requires candidate { Candidate (sheet_in subject.now) t1 t2 }
     ensures onward { Onward (sheet_in subject.now) found.old found.new }
@@ -86,7 +86,7 @@ pub(crate) fn visit(
     requires known { Known subject.now }
     requires enough { Enough (sheet_in subject.now) t2 reach }
     requires low { Low ramps.now }
-    requires energies { t1 < t2 → climbed ramps.now (t2 - t1) ≡ all-energy (sheet_in subject.now) t1 t2 }
+    requires energies { t1 < t2 → climbed ramps.now (t2 - t1) ≡ all_energy (sheet_in subject.now) t1 t2 }
     requires right { Right (sheet_in subject.now) found.old }
     requires candidate { IsInterval t1 t2 → Candidate (sheet_in subject.now) t1 t2 }
     ensures onward { Onward (sheet_in subject.now) found.old found.new }
@@ -110,7 +110,7 @@ pub(crate) fn visit_other(
     requires known { Known subject.now }
     requires enough { Enough (sheet_in subject.now) t2 reach }
     requires low { Low ramps.now }
-    requires energies { t1 < t2 → climbed ramps.now (t2 - t1) ≡ all-energy (sheet_in subject.now) t1 t2 }
+    requires energies { t1 < t2 → climbed ramps.now (t2 - t1) ≡ all_energy (sheet_in subject.now) t1 t2 }
     requires right { Right (sheet_in subject.now) found.old }
     requires candidate { IsInterval t1 t2 → Candidate (sheet_in subject.now) t1 t2 }
     requires seen { Accounted (sheet_in subject.now) found.old t1 seen }

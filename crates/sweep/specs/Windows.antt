@@ -20,5 +20,5 @@ TooShort rows windows k = (window_at windows k).deadline < (window_at windows k)
 
 -- The window of an entry between the later of its release and a start, and the same figure of its mirror, read backwards.
 abbrev pub window_between : Entry → ℕ → ℕ → Window
-window_between e start mirrored-start =
-    record { release = max e.release start; deadline = horizon - max (horizon - e.deadline) mirrored-start }
+window_between e start mirrored_start =
+    record { release = max e.release start; deadline = horizon - max (horizon - e.deadline) mirrored_start }
