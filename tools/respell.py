@@ -4,7 +4,8 @@
 usage: python3 tools/respell.py [FOLDER]      once, on a tree that the toolchain's own port script has just turned
 
 A name is the repository's own if a file of specs/ or proofs/ declares it. Names that Rattle makes (goals, invariants, steps) keep their
-dashes, and so do functions of src/. Comments keep their words, but for what stands between backticks. It prints names that would fall
+dashes, and so do variables and the names that an import gives by `as`. Functions of src/ keep their names. It turns specs/, proofs/, the clauses in
+src/, the edits, docs/ and README.md. Comments keep their words, but for what stands between backticks. It prints names that would fall
 together with another, and leaves those as they are.
 """
 import collections
