@@ -1,7 +1,7 @@
 // An entry of a sheet: what a rule may know of a row.
 
 // An entry may run from its release to before its deadline; it lasts its duration, and takes its demand in each of its slots.
-#[derive(Clone, Copy)]
+#[derive(Clone, Copy, Default)]
 pub struct Entry {
     pub release: u16,
     pub deadline: u16,

@@ -5,14 +5,14 @@ ghost use Rattle.model.specs.Changes.{reset, rebooked, narrowed};
 use crate::windows::Window;
 
 // A subscriber profile and a bearer identity. No two rows of a board have the same pair.
-#[derive(Clone, Copy, PartialEq, Eq)]
+#[derive(Clone, Copy, PartialEq, Eq, Default)]
 pub struct Pair {
     pub profile: u32,
     pub bearer: u32,
 }
 
 // A booked test: how long it lasts, how many channels it takes, its window as entered, and the present one.
-#[derive(Clone, Copy)]
+#[derive(Clone, Copy, Default)]
 pub struct Row {
     pub pair: Pair,
     pub duration: u16,
