@@ -5,6 +5,7 @@ ghost use Rattle.model.specs.Sheets.{Sheet as Meant, count};
 ghost use Rattle.model.specs.Rules.{Meaning, Proper, Refutes, NeverBefore};
 
 use crate::evidence::Tells;
+use model::limits::ROWS_MAX;
 use sheet::sheets::Sheet;
 
 // A rule means two functions of a sheet's meaning: evidence that it is overfull, or none, and the earliest start of each entry.
@@ -14,11 +15,15 @@ pub trait Rule {
 
     const LETTER: char;
 
+    ghost LETTER: { ℕ };
+
     // the letter, the interval that the evidence tells, and the earliest starts
     ghost means: { Self → Meaning };
 
     // the evidence itself
     ghost shows: { Self → Meant → Maybe Self.Evidence };
+
+    ghost lettered: { (r : Self) → (means r).letter ≡ LETTER };
 
     ghost proper: { (r : Self) → Proper (means r) };
 
@@ -29,7 +34,10 @@ pub trait Rule {
     ghost bounds: { (r : Self) → NeverBefore (means r) };
 
     fn mark(&self) -> char
-        ensures { result ≡ (means self.now).letter };
+        ensures { result ≡ (means self.now).letter }
+    {
+        Self::LETTER
+    }
 
     fn evidence<S: Sheet>(&self, sheet: &S) -> Option<Self::Evidence>
         ensures value { result ≡ shows self.now (S.Sheet.meaning sheet.now) }
@@ -40,10 +48,10 @@ pub trait Rule {
         ensures { result ≡ (means self.now).earliest (S.Sheet.meaning sheet.now) place };
 
     // The earliest starts of all entries at once, at their places.
-    fn earliest_all<S: Sheet>(&self, sheet: &S) -> [u16; 64]
+    fn earliest_all<S: Sheet>(&self, sheet: &S) -> [u16; ROWS_MAX]
         ensures { (k : ℕ) → k < count (S.Sheet.meaning sheet.now) → (means self.now).earliest (S.Sheet.meaning sheet.now) k ≡ Some (slice_index result k) }
     {
-        let mut starts = [0; 64];
+        let mut starts = [0; ROWS_MAX];
         for i in 0..sheet.count() {
             starts[i] = self.earliest(sheet, i).unwrap_or(0);
         }
@@ -51,7 +59,7 @@ pub trait Rule {
     }
 
     // Evidence or, where there is none, the earliest starts of all entries: both questions in one, for a rule that answers them in one pass.
-    fn judge<S: Sheet>(&self, sheet: &S) -> Result<[u16; 64], Self::Evidence>
+    fn judge<S: Sheet>(&self, sheet: &S) -> Result<[u16; ROWS_MAX], Self::Evidence>
         ensures value { MatchResult result (λ _. shows self.now (S.Sheet.meaning sheet.now) ≡ None) (λ v. shows self.now (S.Sheet.meaning sheet.now) ≡ Some v) }
         ensures told { MatchResult result (λ _. (means self.now).evidence (S.Sheet.meaning sheet.now) ≡ None) (λ v. (means self.now).evidence (S.Sheet.meaning sheet.now) ≡ Some (Self.Evidence.Tells.told v)) }
         ensures starts { IfOk result (λ starts. (k : ℕ) → k < count (S.Sheet.meaning sheet.now) → (means self.now).earliest (S.Sheet.meaning sheet.now) k ≡ Some (slice_index starts k)) }

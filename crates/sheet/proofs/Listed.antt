@@ -2,7 +2,7 @@
 use Rattle.std.proofs.Common.{◌≡◌, ℕ, List, sym, subst, arith}
 use Rattle.model.specs.declared.entries.Entry.{Entry}
 use Rattle.model.specs.Sheets.{Sheet, Sound}
-use Rattle.sheet.specs.Listed.{sheet, Bounded}
+use Rattle.sheet.specs.Entries.{sheet, Bounded}
 
 pub same_sheet : (s : Sheet) (capacity : ℕ) (entries : List Entry) → capacity ≡ s.capacity → entries ≡ s.entries → sheet capacity entries ≡ s
 same_sheet s capacity entries e1 e2 = λ z. record { capacity = e1 z; entries = e2 z }

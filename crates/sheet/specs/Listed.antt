@@ -1,17 +1,19 @@
--- What a list of entries holds, and the sheet of some entries.
-use Rattle.std.specs.Prelude.{ℕ, List, take}
+-- What a list of entries holds.
+use Rattle.std.specs.Prelude.{List}
 use Rattle.model.specs.declared.entries.Entry.{Entry}
-use Rattle.model.specs.Sheets.{Sheet, Sound, capacity_max}
+use Rattle.model.specs.Sheets.{Sheet}
+use Rattle.sheet.specs.Entries.{sheet}
 use Rattle.sheet.specs.declared.lists.List.{List as Places}
+use Rattle.sheet.specs.declared.lists.Listed.{Listed}
 
 -- The entries that stand in a list.
 abbrev pub listed : Places → List Entry
-listed l = take l.count l.entries
+listed l = l.entries.items
 
--- The sheet of a capacity and entries.
-abbrev pub sheet : ℕ → List Entry → Sheet
-sheet capacity entries = record { capacity = capacity; entries = entries }
+-- The sheet that a list keeps.
+abbrev pub kept : Places → Sheet
+kept l = sheet l.capacity (listed l)
 
--- Entries within the limits of some capacity.
-abbrev pub Bounded : List Entry → Type 0
-Bounded entries = Sound (sheet capacity_max entries)
+-- The sheet that is lent.
+abbrev pub meant : Listed → Sheet
+meant l = sheet l.capacity l.entries.now

@@ -51,15 +51,11 @@ impl<'a, S: Sheet> Sheet for Cut<'a, S> {
     }
 
     fn entry(&self, place: usize) -> Option<Entry> {
-        match self.below.entry(place) {
-            None => None,
-            Some(e) => {
-                if place == self.place {
-                    Some(cut_at(e, self.deadline))
-                } else {
-                    Some(e)
-                }
-            }
+        let e = self.below.entry(place)?;
+        if place == self.place {
+            Some(cut_at(e, self.deadline))
+        } else {
+            Some(e)
         }
     }
 }

@@ -1,37 +1,56 @@
 // Copying the entries of a sheet, so that a rule asks each question once.
-ghost use Rattle.std.specs.Prelude.{◌≡◌, ◌≤◌};
-ghost use Rattle.model.specs.Sheets.{rows_max};
-ghost use Rattle.sheet.specs.Listed.{listed};
+ghost use Rattle.std.specs.Prelude.{◌≡◌, ℕ, ◌<◌, length, slice_index};
+ghost use Rattle.model.specs.Sheets.{Sheet as Meant, count, entry};
+ghost use Rattle.sheet.specs.Listed.{listed, kept, meant};
 
-use crate::lists::List;
+use crate::lists::{List, Listed};
 use crate::sheets::Sheet;
+use arrayvec::ArrayVec;
 use model::entries::Entry;
+use model::limits::ROWS_MAX;
 
-const NO_ENTRY: Entry = Entry {
-    release: 0,
-    deadline: 0,
-    duration: 0,
-    demand: 0,
-};
-
-// The entries of a sheet.
+// The capacity and the entries of a sheet.
 pub fn list<S: Sheet>(sheet: &S) -> List
-    ensures { listed result ≡ (S.Sheet.meaning sheet.now).entries }
+    ensures entries { listed result ≡ (S.Sheet.meaning sheet.now).entries }
+    ensures sheet { kept result ≡ S.Sheet.meaning sheet.now }
 {
-    let count = sheet.count();
-    let mut entries = [NO_ENTRY; 64];
-    for i in 0..count {
-        if let Some(entry) = sheet.entry(i) {
-            entries[i] = entry;
-        }
+    let mut entries = ArrayVec::new();
+    while let Some(entry) = sheet.entry(entries.len()) {
+        entries.push(entry);
     }
-    List { entries, count }
+    List {
+        capacity: sheet.capacity(),
+        entries,
+    }
 }
 
 impl List {
     pub fn entries(&self) -> &[Entry]
         ensures { result.now ≡ listed self.now }
     {
-        &self.entries[0..self.count]
+        self.entries.as_slice()
+    }
+
+    // The capacity and the entries, lent.
+    pub fn lend(&self) -> Listed<'_>
+        ensures { meant result ≡ kept self.now }
+    {
+        Listed {
+            capacity: self.capacity,
+            entries: self.entries(),
+        }
+    }
+}
+
+impl<'a> Listed<'a> {
+    // The releases of the entries, at their places.
+    pub fn releases(&self) -> [u16; ROWS_MAX]
+        ensures { (k : ℕ) → k < count (meant self.now) → slice_index result k ≡ (entry (meant self.now) k).release }
+    {
+        let mut releases = [0; ROWS_MAX];
+        for (place, entry) in self.entries.iter().enumerate() {
+            releases[place] = entry.release;
+        }
+        releases
     }
 }

@@ -1,13 +1,23 @@
 // The entries of a sheet in memory of their own.
-ghost use Rattle.std.specs.Prelude.{◌≤◌};
-ghost use Rattle.model.specs.Sheets.{rows_max};
+ghost use Rattle.model.specs.Sheets.{Sound};
+ghost use Rattle.sheet.specs.Entries.{sheet};
 
+use arrayvec::ArrayVec;
 use model::entries::Entry;
+use model::limits::ROWS_MAX;
 
-// Places for as many entries as a sheet may have, of which the first `count` stand.
+// A capacity, and entries within its limits: as many as a sheet may have.
 #[derive(Drop)]
 pub struct List {
-    pub(crate) entries: [Entry; 64],
-    pub(crate) count: usize,
-    ghost few: { count ≤ rows_max },
+    pub(crate) capacity: u16,
+    pub(crate) entries: ArrayVec<Entry, ROWS_MAX>,
+    ghost sound: { Sound (sheet capacity entries.items) },
+}
+
+// The same, lent for a rule to compute with.
+#[derive(Clone, Copy)]
+pub struct Listed<'a> {
+    pub capacity: u16,
+    pub entries: &'a [Entry],
+    ghost sound: { Sound (sheet capacity entries.now) },
 }

@@ -46,9 +46,7 @@ impl<'a, S: Sheet> Sheet for Mirror<'a, S> {
     }
 
     fn entry(&self, place: usize) -> Option<Entry> {
-        match self.below.entry(place) {
-            None => None,
-            Some(e) => Some(mirrored(e)),
-        }
+        let e = self.below.entry(place)?;
+        Some(mirrored(e))
     }
 }

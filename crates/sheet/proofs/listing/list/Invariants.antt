@@ -1,7 +1,11 @@
--- The entries before i are copied.
-use Rattle.std.proofs.Common.{◌≡◌, ℕ, ◌<◌, length, get_or}
-use Rattle.model.specs.Sheets.{entry, blank}
+-- The entries that were copied are the first ones of the sheet.
+use Rattle.std.proofs.Common.{◌≡◌, ◌-◌, ◌≤◌, length, take}
+use Rattle.model.specs.Sheets.{count}
 use Rattle.sheet.proofs.listing.list.Given as goal
 
-abbrev pub invariant-loop-i : goal.invariant-loop-i
-invariant-loop-i g l = (length l.entries ≡ 64) × ((k : ℕ) → k < l.i → get_or l.entries k blank ≡ entry (g.S.Sheet.meaning l.sheet) k)
+abbrev pub invariant-loop-entry : goal.invariant-loop-entry
+invariant-loop-entry g l =
+    (length l.entries.items ≤ count (g.S.Sheet.meaning l.sheet)) × (l.entries.items ≡ take (length l.entries.items) (g.S.Sheet.meaning l.sheet).entries)
+
+abbrev pub decreases-loop-entry : goal.decreases-loop-entry
+decreases-loop-entry g l = count (g.S.Sheet.meaning l.sheet) - length l.entries.items

@@ -9,21 +9,21 @@ use Rattle.sheet.proofs.mirrors.MirrorSheet.entry.Goals as goal
 pub mirrored-requires : goal.mirrored-requires
 mirrored-requires g c =
     let s = g.S.Sheet.meaning c.args.self.now.below.now in
-    let h = at_some s c.args.place c.in-Some.e (sym c.in-Some.ensures) in
+    let h = at_some s c.args.place c.in_ok-e.e (sym c.in_ok-e.ensures) in
     let good = (g.S.Sheet.limits c.args.self.now.below.now).each c.args.place h.0 in
     let r = ap (λ (e : Entry). e.release) h.1 in
     let d = ap (λ (e : Entry). e.deadline) h.1 in
     (omega arith, omega arith)
 
-pub returns-in-None : goal.returns-in-None
-returns-in-None g c =
+pub returns-in_err-e : goal.returns-in_err-e
+returns-in_err-e g c =
     let s = g.S.Sheet.meaning c.args.self.now.below.now in
-    let h = at_none s c.args.place (sym c.in-None.ensures) in
-    sym (none_at (mirror s) c.args.place (omega (arith, mirror_count s)))
+    let h = at_none s c.args.place (sym c.entry.ensures ∙ c.in_err-e.was) in
+    c.from_residual.ensures ∙ sym (none_at (mirror s) c.args.place (omega (arith, mirror_count s)))
 
-pub returns-in-Some : goal.returns-in-Some
-returns-in-Some g c =
+pub returns : goal.returns
+returns g c =
     let s = g.S.Sheet.meaning c.args.self.now.below.now in
-    let h = at_some s c.args.place c.in-Some.e (sym c.in-Some.ensures) in
+    let h = at_some s c.args.place c.in_ok-e.e (sym c.in_ok-e.ensures) in
     let l : c.args.place < count (mirror s) = omega (arith, mirror_count s) in
     ap Some (c.mirrored.ensures ∙ ap mirror_entry h.1 ∙ sym (mirror_at s c.args.place h.0)) ∙ sym (some_at (mirror s) c.args.place l)
