@@ -4,36 +4,26 @@
 ghost use Rattle.shift.specs.Theorems.{SKeepsTheLaw, SIsExact, LeastSlackIsAtACandidate, PartsAreClipped, QuotientsRoundUp};
 
 // The computation of S is S, and whatever is S keeps the law of rules.
-pub fn s_keeps_the_law() -> u8
+pub fn s_keeps_the_law()
     ensures { SKeepsTheLaw }
-{
-    0
-}
+{}
 
 // S has evidence exactly where some interval, candidate or not, has negative slack.
-pub fn s_is_exact() -> u8
+pub fn s_is_exact()
     ensures { SIsExact }
-{
-    0
-}
+{}
 
 // Where some slack is negative, the least slack is at a candidate.
-pub fn least_slack_is_at_a_candidate() -> u8
+pub fn least_slack_is_at_a_candidate()
     ensures { LeastSlackIsAtACandidate }
-{
-    0
-}
+{}
 
 // Cut-off subtraction gives the left and right parts of the integers, clipped at zero.
-pub fn parts_are_clipped() -> u8
+pub fn parts_are_clipped()
     ensures { PartsAreClipped }
-{
-    0
-}
+{}
 
 // The quotient by which an end is forced is the least that is enough.
-pub fn quotients_round_up() -> u8
+pub fn quotients_round_up()
     ensures { QuotientsRoundUp }
-{
-    0
-}
+{}
