@@ -2,8 +2,8 @@
 #![tactic(auto)]
 
 pub mod applying;
+mod changes;
 mod figuring;
-mod outcomes;
 pub mod present;
 pub mod presenting;
 mod rounds;

@@ -4,7 +4,7 @@ ghost use Rattle.board.specs.Held.{bookings};
 ghost use Rattle.runs.specs.Sweeping.{SweepsTo, spare};
 ghost use Rattle.runs.specs.Promise.{EveryRunKeepsItsPromise, EveryListOfCallsHasOneRun};
 
-use crate::outcomes::Outcome;
+use crate::changes::Change;
 use crate::rounds::round;
 use board::answers::{Swept, Verdict};
 use board::boards::Board;
@@ -19,17 +19,15 @@ pub fn sweep<X: Rule, Y: Rule, Z: Rule>(board: &mut Board, x: &X, y: &Y, z: &Z) 
     ensures promise { (EveryRunKeepsItsPromise) × (EveryListOfCallsHasOneRun) }
 {
     let mut passed = 0;
-    loop {
+    let verdict = loop {
         match round(board, x, y, z) {
-            Outcome::Failed(verdict) => return Swept {
-                verdict,
-                rounds: passed + 1,
-            },
-            Outcome::Quiet => return Swept {
-                verdict: Verdict::Settled,
-                rounds: passed + 1,
-            },
-            Outcome::Narrowed => passed += 1,
+            Ok(Change::Narrowed) => passed += 1,
+            Ok(Change::Quiet) => break Verdict::Settled,
+            Err(verdict) => break verdict,
         }
+    };
+    Swept {
+        verdict,
+        rounds: passed + 1,
     }
 }

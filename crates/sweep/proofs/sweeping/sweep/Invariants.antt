@@ -5,9 +5,9 @@ use Rattle.runs.specs.Sweeping.{spare}
 use Rattle.runs.proofs.Resumed.{Resumes}
 use Rattle.sweep.proofs.sweeping.sweep.Given as goal
 
-abbrev pub invariant-loop-verdict : goal.invariant-loop-verdict
-invariant-loop-verdict g l =
+abbrev pub invariant-loop-passed : goal.invariant-loop-passed
+invariant-loop-passed g l =
     Resumes (g.X.Rule.means l.x ∷ (g.Y.Rule.means l.y ∷ (g.Z.Rule.means l.z ∷ []))) (bookings l.initial.board) l.passed (bookings l.board)
 
-abbrev pub decreases-loop-verdict : goal.decreases-loop-verdict
-decreases-loop-verdict g l = spare (bookings l.board)
+abbrev pub decreases-loop-passed : goal.decreases-loop-passed
+decreases-loop-passed g l = spare (bookings l.board)
