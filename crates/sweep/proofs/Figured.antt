@@ -1,11 +1,18 @@
 -- The window between what a rule answers on a sheet and on its mirror is the window of the two figures.
-use Rattle.std.proofs.Common.{◌≡◌, ℕ, ◌-◌, ◌<◌, ◌≤◌, max, Some, sym, ap, arith}
+use Rattle.std.proofs.Common.{◌≡◌, ℕ, ◌-◌, ◌<◌, ◌≤◌, List, max, slice_index, Some, sym, ap, subst, arith}
 use Rattle.model.specs.declared.entries.Entry.{Entry}
 use Rattle.model.specs.Rules.{Meaning, Proper}
 use Rattle.model.specs.Sheets.{Sheet, Sound, count, entry, mirror, horizon}
-use Rattle.model.proofs.Mirrors.{mirror_at}
+use Rattle.model.proofs.Mirrors.{mirror_at, mirror_count}
 use Rattle.runs.specs.Applying.{figures, number}
 use Rattle.sweep.specs.Windows.{window_between}
+
+-- what is answered on the mirror of a sheet, by the places of the sheet
+pub back : (rule : Meaning) (s t : Sheet) (ends : List ℕ) → t ≡ s → ((k : ℕ) → k < count (mirror t) → rule.earliest (mirror t) k ≡ Some (slice_index ends k)) →
+    (k : ℕ) → k < count s → rule.earliest (mirror s) k ≡ Some (slice_index ends k)
+back rule s t ends same each k l =
+    subst (λ (x : Sheet). rule.earliest (mirror x) k ≡ Some (slice_index ends k)) same
+    (each k (omega (arith, mirror_count t, ap count same)))
 
 pub start_small : (rule : Meaning) → Proper rule → (s : Sheet) → Sound s → (k n : ℕ) → k < count s → rule.earliest s k ≡ Some n → n ≤ horizon
 start_small rule proper s sound k n l e =

@@ -33,14 +33,10 @@ impl<'a> Sheet for Present<'a> {
     }
 
     fn entry(&self, place: usize) -> Option<Entry> {
-        if place >= self.rows.len() {
-            return None;
-        }
-        let row = self.rows[place];
-        let window = row.present;
+        let row = self.rows.get(place)?;
         Some(Entry {
-            release: window.release,
-            deadline: window.deadline,
+            release: row.present.release,
+            deadline: row.present.deadline,
             duration: row.duration,
             demand: row.demand,
         })

@@ -15,13 +15,9 @@ pub(crate) fn differ(rows: &[Row], windows: &[Window]) -> bool
     requires { length rows.now ≤ length windows.now }
     ensures { MatchBool result ((k : ℕ) × (k < length rows.now) × (¬ (window_at windows.now k ≡ (row_at rows.now k).present))) ((k : ℕ) → k < length rows.now → window_at windows.now k ≡ (row_at rows.now k).present) }
 {
-    for i in 0..rows.len() {
-        let (window, present) = (windows[i], rows[i].present);
-        if window.release != present.release || window.deadline != present.deadline {
-            return true;
-        }
-    }
-    false
+    rows.iter()
+        .zip(windows)
+        .any(|(row, window)| row.present != *window)
 }
 
 // Gives each row its window, and changes nothing else.
@@ -29,7 +25,8 @@ pub(crate) fn write(board: &mut Board, windows: &[Window])
     requires { (length (bookings board.old).rows ≤ length windows.now) × (((k : ℕ) → k < length (bookings board.old).rows → FitsIn (row_at (bookings board.old).rows k) (window_at windows.now k))) }
     ensures { Writes (window_at windows.now) (bookings board.old) (bookings board.new) }
 {
-    for i in 0..board.rows().len() {
-        board.narrow(i, windows[i]);
+    let windows = &windows[..board.rows().len()];
+    for (place, window) in windows.iter().enumerate() {
+        board.narrow(place, *window);
     }
 }

@@ -6,9 +6,9 @@ use Rattle.board.specs.Held.{bookings}
 use Rattle.sweep.specs.Windows.{window_at}
 use Rattle.sweep.proofs.writing.write.Given as goal
 
-abbrev pub invariant-loop-i : goal.invariant-loop-i
-invariant-loop-i l =
+abbrev pub invariant-loop-place : goal.invariant-loop-place
+invariant-loop-place l =
     ((bookings l.board).capacity ≡ (bookings l.initial.board).capacity)
     × (length (bookings l.board).rows ≡ length (bookings l.initial.board).rows)
-    × ((k : ℕ) → k < l.i → row_at (bookings l.board).rows k ≡ narrowed (window_at l.windows k) (row_at (bookings l.initial.board).rows k))
-    × ((k : ℕ) → l.i ≤ k → row_at (bookings l.board).rows k ≡ row_at (bookings l.initial.board).rows k)
+    × ((k : ℕ) → k < l.place → row_at (bookings l.board).rows k ≡ narrowed (window_at l.windows k) (row_at (bookings l.initial.board).rows k))
+    × ((k : ℕ) → l.place ≤ k → row_at (bookings l.board).rows k ≡ row_at (bookings l.initial.board).rows k)
