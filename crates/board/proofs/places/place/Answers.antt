@@ -15,9 +15,8 @@ returns-then-pair-gt-PROFILE_MAX c =
 
 pub returns-then-not-contains : goal.returns-then-not-contains
 returns-then-not-contains c =
-    let n = c.new.ensures in
     let wrong : WrongPair c.args.pair Bearer =
-    elim (outside c.new.result c.args.pair.bearer n.exhausted c.if-not-contains.ensures.value) [
+    elim (outside _ _ _ _ c.new.ensures c.if-not-contains.ensures) [
       | inl low ↦ bearer_low (omega arith)
       | inr high ↦ bearer_high (omega arith)
     ] in
@@ -28,6 +27,5 @@ returns-then-not-contains c =
 
 pub returns : goal.returns
 returns c =
-    let n = c.new.ensures in
-    let bearer = within c.new.result c.args.pair.bearer c.if-not-contains.ensures.cases in
+    let bearer = within _ _ _ _ c.new.ensures c.if-not-contains.ensures in
     stands (λ w h. number_small w (least_pair 11 c.args.pair (λ l. omega arith) (λ l. omega arith) (λ l. omega arith) w h))

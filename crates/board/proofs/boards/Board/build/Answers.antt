@@ -6,8 +6,7 @@ use Rattle.board.proofs.boards.Board.build.Goals as goal
 
 pub returns-then-not-contains : goal.returns-then-not-contains
 returns-then-not-contains c =
-    let n = c.new.ensures in
-    elim (outside c.new.result c.args.capacity n.exhausted c.if-not-contains.ensures.value) [
+    elim (outside _ _ _ _ c.new.ensures c.if-not-contains.ensures) [
       | inl low ↦ too_small (omega arith)
       | inr high ↦ too_large (omega (arith, c.from.ensures))
     ]

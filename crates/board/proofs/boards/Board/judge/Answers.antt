@@ -17,9 +17,8 @@ returns-in_err-place c =
 pub returns-then-not-contains : goal.returns-then-not-contains
 returns-then-not-contains c =
     let named = pair_within _ (place_judges _ _ c.in_ok-place.ensures) in
-    let n = c.new.ensures in
     let wrong : Wrong (bookings c.args.self.now) c.args.test Duration =
-    elim (outside c.new.result c.args.test.duration n.exhausted c.if-not-contains.ensures.value) [
+    elim (outside _ _ _ _ c.new.ensures c.if-not-contains.ensures) [
       | inl low ↦ instant (omega arith)
       | inr high ↦ long (omega (arith, c.from.ensures))
     ] in
@@ -33,11 +32,9 @@ returns-then-not-contains c =
 pub returns-then-not-contains-2 : goal.returns-then-not-contains-2
 returns-then-not-contains-2 c =
     let named = pair_within _ (place_judges _ _ c.in_ok-place.ensures) in
-    let lasts = within c.new.result c.args.test.duration c.if-not-contains.ensures.cases in
-    let m = c.new.ensures in
-    let n = c.new-2.ensures in
+    let lasts = within _ _ _ _ c.new.ensures c.if-not-contains.ensures in
     let wrong : Wrong (bookings c.args.self.now) c.args.test Demand =
-    elim (outside c.new-2.result c.args.test.demand n.exhausted c.if-not-contains-2.ensures.value) [
+    elim (outside _ _ _ _ c.new-2.ensures c.if-not-contains-2.ensures) [
       | inl low ↦ idle (omega arith)
       | inr high ↦ greedy (omega (arith, c.from-2.ensures))
     ] in
@@ -51,10 +48,8 @@ returns-then-not-contains-2 c =
 pub returns-in_err-entered : goal.returns-in_err-entered
 returns-in_err-entered c =
     let named = pair_within _ (place_judges _ _ c.in_ok-place.ensures) in
-    let lasts = within c.new.result c.args.test.duration c.if-not-contains.ensures.cases in
-    let takes = within c.new-2.result c.args.test.demand c.if-not-contains-2.ensures.cases in
-    let m = c.new.ensures in
-    let n = c.new-2.ensures in
+    let lasts = within _ _ _ _ c.new.ensures c.if-not-contains.ensures in
+    let takes = within _ _ _ _ c.new-2.ensures c.if-not-contains-2.ensures in
     let p = err_from_is_err_and c.from_residual-in_err-entered.result c.from_residual-in_err-entered.ensures.1 in
     rw (p.1, p.2, c.in_err-entered.ensures.1) (record {
       wrong = window c.in_err-entered.ensures.0;
@@ -66,10 +61,8 @@ returns-in_err-entered c =
 pub returns-then-is_some : goal.returns-then-is_some
 returns-then-is_some c =
     let named = pair_within _ (place_judges _ _ c.in_ok-place.ensures) in
-    let lasts = within c.new.result c.args.test.duration c.if-not-contains.ensures.cases in
-    let takes = within c.new-2.result c.args.test.demand c.if-not-contains-2.ensures.cases in
-    let m = c.new.ensures in
-    let n = c.new-2.ensures in
+    let lasts = within _ _ _ _ c.new.ensures c.if-not-contains.ensures in
+    let takes = within _ _ _ _ c.new-2.ensures c.if-not-contains-2.ensures in
     let windowed = fits_within _ _ _ c.in_ok-entered.ensures.0 in
     let (k, at) = found _ _ c.find.result c.find.ensures c.if-is_some.ensures in
     record {
@@ -82,10 +75,8 @@ returns-then-is_some c =
 pub returns-then-rows-ge-ROWS_MAX : goal.returns-then-rows-ge-ROWS_MAX
 returns-then-rows-ge-ROWS_MAX c =
     let named = pair_within _ (place_judges _ _ c.in_ok-place.ensures) in
-    let lasts = within c.new.result c.args.test.duration c.if-not-contains.ensures.cases in
-    let takes = within c.new-2.result c.args.test.demand c.if-not-contains-2.ensures.cases in
-    let m = c.new.ensures in
-    let n = c.new-2.ensures in
+    let lasts = within _ _ _ _ c.new.ensures c.if-not-contains.ensures in
+    let takes = within _ _ _ _ c.new-2.ensures c.if-not-contains-2.ensures in
     let windowed = fits_within _ _ _ c.in_ok-entered.ensures.0 in
     let free = missing _ _ c.find.result c.find.ensures c.if-is_some.ensures in
     record {
@@ -98,10 +89,8 @@ returns-then-rows-ge-ROWS_MAX c =
 pub returns : goal.returns
 returns c =
     let named = pair_within _ (place_judges _ _ c.in_ok-place.ensures) in
-    let lasts = within c.new.result c.args.test.duration c.if-not-contains.ensures.cases in
-    let takes = within c.new-2.result c.args.test.demand c.if-not-contains-2.ensures.cases in
-    let m = c.new.ensures in
-    let n = c.new-2.ensures in
+    let lasts = within _ _ _ _ c.new.ensures c.if-not-contains.ensures in
+    let takes = within _ _ _ _ c.new-2.ensures c.if-not-contains-2.ensures in
     let windowed = fits_within _ _ _ c.in_ok-entered.ensures.0 in
     let free = missing _ _ c.find.result c.find.ensures c.if-is_some.ensures in
     let room = rw c.rows.ensures at c.if-rows-ge-ROWS_MAX.false in (
