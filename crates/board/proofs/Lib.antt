@@ -1,3 +1,5 @@
+mod Ranges
+mod Found
 pub mod Judging
 pub mod Kept
-mod Steps
+pub mod Sound

@@ -1,6 +1,6 @@
 // The calls on a board that are obeyed or refused.
-ghost use Rattle.std.specs.Prelude.{◌≡◌, IfOk, MatchBool, MatchOption, MatchResult};
-ghost use Rattle.board.specs.Calls.{Nothing, First, Wrong, Misfit, StandsAt, Free, built, Builds, Enters, Withdraws, Rebooks};
+ghost use Rattle.std.specs.Prelude.{◌≡◌, IfOk, MatchOption, MatchResult};
+ghost use Rattle.board.specs.Calls.{Nothing, First, Wrong, Misfit, StandsAt, Free, row_of, built, Builds, Enters, Withdraws, Rebooks};
 ghost use Rattle.board.specs.Held.{bookings};
 
 use crate::boards::Board;
@@ -13,11 +13,18 @@ use model::rows::{Pair, Row};
 use model::windows::Window;
 use std::alloc::{AllocError, Global};
 
-// Whether a window ends by the last slot and has room for a duration.
-fn fits(duration: u32, release: u32, deadline: u32) -> bool
-    ensures { MatchBool result (¬ Misfit duration release deadline) (Misfit duration release deadline) }
+// The window of two numbers, if it ends by the last slot and has room for a duration.
+fn window(duration: u32, release: u32, deadline: u32) -> Result<Window, Refusal>
+    ensures { MatchResult result (λ w. (¬ Misfit duration release deadline) × (w ≡ record { release = release; deadline = deadline })) (λ r. Misfit duration release deadline × (r ≡ Refusal.Window)) }
 {
-    deadline <= SLOTS as u32 && duration <= deadline && release <= deadline - duration
+    if deadline <= u32::from(SLOTS) && duration <= deadline && release <= deadline - duration {
+        Ok(Window {
+            release: release as u16,
+            deadline: deadline as u16,
+        })
+    } else {
+        Err(Refusal::Window)
+    }
 }
 
 impl Board {
@@ -25,10 +32,9 @@ impl Board {
     pub fn new(heap: Global) -> Result<Board, AllocError>
         ensures { IfOk result (λ b. bookings b ≡ built 1) }
     {
-        let rows = Vec::with_capacity(heap, ROWS_MAX)?;
         Ok(Board {
             capacity: 1,
-            table: Table { rows },
+            table: Table::new(heap)?,
         })
     }
 
@@ -36,7 +42,7 @@ impl Board {
     pub fn build(&mut self, capacity: u32) -> Result<(), Refusal>
         ensures { Builds (bookings self.old) capacity result (bookings self.new) }
     {
-        if capacity < 1 || capacity > CAPACITY_MAX as u32 {
+        if !(1..=u32::from(CAPACITY_MAX)).contains(&capacity) {
             return Err(Refusal::Capacity);
         }
         self.table.clear();
@@ -48,39 +54,34 @@ impl Board {
     fn find(&self, pair: Pair) -> Option<usize>
         ensures { MatchOption result (Free pair (bookings self.now).rows) (λ k. StandsAt pair (bookings self.now).rows k) }
     {
-        for i in 0..self.table.rows.len() {
-            if self.table.rows[i].pair == pair {
-                return Some(i);
-            }
-        }
-        None
+        self.rows().iter().position(|row| row.pair == pair)
     }
 
-    // Refuses a test with the least number of what is wrong with it.
-    fn judge(&self, test: Test) -> Result<(), Refusal>
-        ensures { MatchResult result (λ _. Nothing (Wrong (bookings self.now) test)) (λ w. First (Wrong (bookings self.now) test) w) }
+    // The row that a test makes; a test that is wrong is refused with the least number of what is wrong with it.
+    fn judge(&self, test: Test) -> Result<Row, Refusal>
+        ensures { MatchResult result (λ row. Nothing (Wrong (bookings self.now) test) × (row ≡ row_of test)) (λ w. First (Wrong (bookings self.now) test) w) }
     {
-        match place(test.pair) {
-            Ok(_) => {}
-            Err(wrong) => return Err(wrong),
-        }
-        if test.duration < 1 || test.duration > SLOTS as u32 {
+        place(test.pair)?;
+        if !(1..=u32::from(SLOTS)).contains(&test.duration) {
             return Err(Refusal::Duration);
         }
-        if test.demand < 1 || test.demand > self.capacity as u32 {
+        if !(1..=u32::from(self.capacity)).contains(&test.demand) {
             return Err(Refusal::Demand);
         }
-        if !fits(test.duration, test.release, test.deadline) {
-            return Err(Refusal::Window);
+        let entered = window(test.duration, test.release, test.deadline)?;
+        if self.find(test.pair).is_some() {
+            return Err(Refusal::Taken);
         }
-        match self.find(test.pair) {
-            None => {}
-            Some(_) => return Err(Refusal::Taken),
-        }
-        if self.table.rows.len() >= ROWS_MAX {
+        if self.rows().len() >= ROWS_MAX {
             return Err(Refusal::Full);
         }
-        Ok(())
+        Ok(Row {
+            pair: test.pair,
+            duration: test.duration as u16,
+            demand: test.demand as u16,
+            entered,
+            present: entered,
+        })
     }
 }
 
@@ -89,22 +90,8 @@ impl Board {
     pub fn enter(&mut self, test: Test) -> Result<(), Refusal>
         ensures { Enters (bookings self.old) test result (bookings self.new) }
     {
-        match self.judge(test) {
-            Ok(()) => {}
-            Err(wrong) => return Err(wrong),
-        }
-        let window = Window {
-            release: test.release as u16,
-            deadline: test.deadline as u16,
-        };
-        let (duration, demand) = (test.duration as u16, test.demand as u16);
-        self.table.add(Row {
-            pair: test.pair,
-            duration,
-            demand,
-            entered: window,
-            present: window,
-        });
+        let row = self.judge(test)?;
+        self.table.add(row);
         Ok(())
     }
 
@@ -112,34 +99,20 @@ impl Board {
     pub fn withdraw(&mut self, pair: Pair) -> Result<(), Refusal>
         ensures { Withdraws (bookings self.old) pair result (bookings self.new) }
     {
-        match self.find(pair) {
-            None => Err(Refusal::Unknown),
-            Some(i) => {
-                self.table.remove(i);
-                self.table.reset();
-                Ok(())
-            }
-        }
+        let i = self.find(pair).ok_or(Refusal::Unknown)?;
+        self.table.remove(i);
+        self.table.reset();
+        Ok(())
     }
 
     // Gives the row with a pair a new window as entered; every present window is the entered one again.
     pub fn rebook(&mut self, pair: Pair, release: u32, deadline: u32) -> Result<(), Refusal>
         ensures { Rebooks (bookings self.old) pair release deadline result (bookings self.new) }
     {
-        match self.find(pair) {
-            None => Err(Refusal::Unknown),
-            Some(i) => {
-                if !fits(self.table.rows[i].duration as u32, release, deadline) {
-                    return Err(Refusal::Window);
-                }
-                let window = Window {
-                    release: release as u16,
-                    deadline: deadline as u16,
-                };
-                self.table.rebook(i, window);
-                self.table.reset();
-                Ok(())
-            }
-        }
+        let i = self.find(pair).ok_or(Refusal::Unknown)?;
+        let window = window(u32::from(self.rows()[i].duration), release, deadline)?;
+        self.table.rebook(i, window);
+        self.table.reset();
+        Ok(())
     }
 }

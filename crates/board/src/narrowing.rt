@@ -13,7 +13,7 @@ fn holds(row: &Row, window: Window) -> bool
 {
     window.release >= row.entered.release
         && window.deadline <= row.entered.deadline
-        && window.release as u32 + row.duration as u32 <= window.deadline as u32
+        && u32::from(window.release) + u32::from(row.duration) <= u32::from(window.deadline)
 }
 
 impl Board {
@@ -23,13 +23,10 @@ impl Board {
         ensures answer { MatchBool result (FitsAt (bookings self.old) place window) (¬ FitsAt (bookings self.old) place window) }
         ensures board { MatchBool result (bookings self.new ≡ narrowed_at (bookings self.old) place window) (bookings self.new ≡ bookings self.old) }
     {
-        if place >= self.table.rows.len() {
-            return false;
+        let fits = self.rows().get(place).is_some_and(|row| holds(row, window));
+        if fits {
+            self.table.narrow(place, window);
         }
-        if !holds(&self.table.rows[place], window) {
-            return false;
-        }
-        self.table.narrow(place, window);
-        true
+        fits
     }
 }

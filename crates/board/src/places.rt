@@ -12,7 +12,7 @@ pub fn place(pair: Pair) -> Result<u32, Refusal>
     if pair.profile > PROFILE_MAX {
         return Err(Refusal::Profile);
     }
-    if pair.bearer < BEARER_MIN || pair.bearer > BEARER_MAX {
+    if !(BEARER_MIN..=BEARER_MAX).contains(&pair.bearer) {
         return Err(Refusal::Bearer);
     }
     Ok(pair.profile * (BEARER_MAX + 1 - BEARER_MIN) + pair.bearer - BEARER_MIN)

@@ -16,6 +16,6 @@ impl Board {
     pub fn rows(&self) -> &[Row]
         ensures { result.now ≡ (bookings self.now).rows }
     {
-        self.table.rows.as_slice()
+        self.table.as_slice()
     }
 }

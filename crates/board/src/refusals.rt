@@ -2,19 +2,19 @@
 ghost use Rattle.std.specs.Prelude.{◌≡◌};
 ghost use Rattle.board.specs.Refusals.{number_of};
 
-// One case for each reason, in the order in which a call judges them.
-#[derive(Clone, Copy)]
+// One case for each reason, in the order in which a call judges them, with the number by which it is reported.
+#[derive(Clone, Copy, PartialEq, Eq)]
 pub enum Refusal {
-    Capacity,
-    Profile,
-    Bearer,
-    Duration,
-    Demand,
-    Window,
-    Taken,
-    Full,
-    Unknown,
-    Letter,
+    Capacity = 1,
+    Profile = 2,
+    Bearer = 3,
+    Duration = 4,
+    Demand = 5,
+    Window = 6,
+    Taken = 7,
+    Full = 8,
+    Unknown = 9,
+    Letter = 10,
 }
 
 impl Refusal {
@@ -22,17 +22,14 @@ impl Refusal {
     pub fn number(self) -> u8
         ensures { result ≡ number_of self }
     {
-        match self {
-            Refusal::Capacity => 1,
-            Refusal::Profile => 2,
-            Refusal::Bearer => 3,
-            Refusal::Duration => 4,
-            Refusal::Demand => 5,
-            Refusal::Window => 6,
-            Refusal::Taken => 7,
-            Refusal::Full => 8,
-            Refusal::Unknown => 9,
-            Refusal::Letter => 10,
-        }
+        u8::from(self)
+    }
+}
+
+impl From<Refusal> for u8 {
+    ghost from_gives = { λ refusal n. n ≡ number_of refusal };
+
+    fn from(refusal: Refusal) -> u8 {
+        refusal as u8
     }
 }

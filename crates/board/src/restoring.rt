@@ -1,51 +1,21 @@
 // Saving what a board holds, and putting it back.
-ghost use Rattle.std.specs.Prelude.{◌≡◌, ℕ, ◌<◌, ◌≤◌, length, take};
+ghost use Rattle.std.specs.Prelude.{◌≡◌};
 ghost use Rattle.board.specs.Held.{bookings, kept};
-ghost use Rattle.model.specs.Limits.{row_at};
 
 use crate::boards::Board;
 use crate::saved::Saved;
-use model::rows::{Pair, Row};
-use model::windows::Window;
-
-// What stands in the places past the last row.
-const NO_WINDOW: Window = Window {
-    release: 0,
-    deadline: 0,
-};
-
-const NO_ROW: Row = Row {
-    pair: Pair {
-        profile: 0,
-        bearer: 0,
-    },
-    duration: 0,
-    demand: 0,
-    entered: NO_WINDOW,
-    present: NO_WINDOW,
-};
-
-// The rows at the front of an array with a place for every row that a board may have.
-fn copied(rows: &[Row]) -> [Row; 64]
-    requires { length rows.now ≤ 64 }
-    ensures { take (length rows.now) result ≡ rows.now }
-{
-    let mut all = [NO_ROW; 64];
-    all[0..rows.len()].copy_from_slice(rows);
-    all
-}
+use arrayvec::ArrayVec;
 
 impl Board {
     // What the board holds, to be put back later.
     pub fn save(&self) -> Saved
         ensures { kept result ≡ bookings self.now }
     {
-        let count = self.table.rows.len();
-        let rows = copied(self.table.rows.as_slice());
+        let mut rows = ArrayVec::new();
+        rows.try_extend_from_slice(self.rows()).unwrap();
         Saved {
             capacity: self.capacity,
             rows,
-            count,
         }
     }
 
@@ -53,7 +23,7 @@ impl Board {
     pub fn restore(&mut self, saved: &Saved)
         ensures { bookings self.new ≡ kept saved.now }
     {
-        self.table.refill(&saved.rows[0..saved.count]);
+        self.table.refill(saved.rows.as_slice());
         self.capacity = saved.capacity;
     }
 }

@@ -1,21 +1,14 @@
 // A copy of what a board holds, which asks for no memory.
-ghost use Rattle.std.specs.Prelude.{◌≤◌, take};
-ghost use Rattle.model.specs.Sheets.{capacity_max, rows_max};
-ghost use Rattle.model.specs.Limits.{EachRow, Named, Sized, Windowed, Apart};
+ghost use Rattle.board.specs.Calls.{SoundBookings};
 
+use arrayvec::ArrayVec;
+use model::limits::ROWS_MAX;
 use model::rows::Row;
 
-// The capacity, and the rows, of which the first `count` stand.
+// The capacity and the rows.
 #[derive(Drop)]
 pub struct Saved {
     pub(crate) capacity: u16,
-    pub(crate) rows: [Row; 64],
-    pub(crate) count: usize,
-    ghost least: { 1 ≤ capacity },
-    ghost most: { capacity ≤ capacity_max },
-    ghost few: { count ≤ rows_max },
-    ghost named: { EachRow Named (take count rows) },
-    ghost sized: { EachRow (Sized capacity) (take count rows) },
-    ghost windowed: { EachRow Windowed (take count rows) },
-    ghost apart: { Apart (take count rows) },
+    pub(crate) rows: ArrayVec<Row, ROWS_MAX>,
+    ghost sound: { SoundBookings (record { capacity = capacity; rows = rows.items }) },
 }

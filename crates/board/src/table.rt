@@ -1,54 +1,74 @@
 // The table of rows inside a board.
-ghost use Rattle.std.specs.Prelude.{◌≡◌, ◌+◌, ◌<◌, ◌≤◌, [], ◌∷◌, ◌++◌, map, length, vec_len, vec_capacity, slice_set};
+ghost use Rattle.std.specs.Prelude.{◌≡◌, ◌<◌, ◌≤◌, List, [], ◌∷◌, ◌++◌, map, length, IfOk, slice_set, vec_capacity};
 ghost use Rattle.std.specs.List.{remove};
+ghost use Rattle.model.specs.declared.rows.Row.{Row};
+ghost use Rattle.model.specs.Sheets.{rows_max};
 ghost use Rattle.model.specs.Limits.{row_at};
 ghost use Rattle.model.specs.Changes.{reset, rebooked, narrowed};
 
+use model::limits::ROWS_MAX;
 use model::rows::Row;
 use model::windows::Window;
+use std::alloc::{AllocError, Global};
+use std::marker::Model;
 
-// The rows in order of entry.
+// The rows in order of entry, with room for as many as a board may have.
 #[derive(Drop)]
 pub struct Table {
-    pub(crate) rows: Vec<Row>,
+    rows: Vec<Row>,
+}
+
+impl Model for Table {
+    ghost Value = { List Row };
+
+    ghost view = { λ t. t.rows.items };
+
+    ghost invariant = { λ t. rows_max ≤ vec_capacity t.rows };
 }
 
 impl Table {
+    // A table without rows. No other call on a table asks for memory.
+    pub(crate) fn new(heap: Global) -> Result<Table, AllocError>
+        ensures { IfOk result (λ t. t ≡ []) }
+    {
+        let rows = Vec::with_capacity(heap, ROWS_MAX)?;
+        Ok(Table { rows })
+    }
+
+    // The rows in order of entry.
+    pub(crate) fn as_slice(&self) -> &[Row]
+        ensures { result.now ≡ self.now }
+    {
+        self.rows.as_slice()
+    }
+
     // Adds a last row, for which there is room.
     pub(crate) fn add(&mut self, row: Row)
-        requires { vec_len self.old.rows < vec_capacity self.old.rows }
-        ensures rows { self.new.rows.items ≡ self.old.rows.items ++ (row ∷ []) }
-        ensures count { vec_len self.new.rows ≡ vec_len self.old.rows + 1 }
-        ensures room { vec_capacity self.new.rows ≡ vec_capacity self.old.rows }
+        requires { length self.old < rows_max }
+        ensures { self.new ≡ self.old ++ (row ∷ []) }
     {
         self.rows.push_reserved(row);
     }
 
     // Removes all rows.
     pub(crate) fn clear(&mut self)
-        ensures rows { self.new.rows.items ≡ [] }
-        ensures count { vec_len self.new.rows ≡ 0 }
-        ensures room { vec_capacity self.new.rows ≡ vec_capacity self.old.rows }
+        ensures { self.new ≡ [] }
     {
         self.rows.clear();
     }
 
     // Removes the row at place i; later rows move up by one.
     pub(crate) fn remove(&mut self, i: usize)
-        requires { i < vec_len self.old.rows }
-        ensures rows { self.new.rows.items ≡ remove self.old.rows.items i }
-        ensures count { vec_len self.new.rows + 1 ≡ vec_len self.old.rows }
-        ensures room { vec_capacity self.new.rows ≡ vec_capacity self.old.rows }
+        requires { i < length self.old }
+        ensures { self.new ≡ remove self.old i }
     {
         self.rows.remove(i);
     }
 
     // Gives the row at place i a new window, as entered and as present.
     pub(crate) fn rebook(&mut self, i: usize, window: Window)
-        requires { i < vec_len self.old.rows }
-        ensures rows { self.new.rows.items ≡ slice_set self.old.rows.items i (rebooked window (row_at self.old.rows.items i)) }
-        ensures count { vec_len self.new.rows ≡ vec_len self.old.rows }
-        ensures room { vec_capacity self.new.rows ≡ vec_capacity self.old.rows }
+        requires { i < length self.old }
+        ensures { self.new ≡ slice_set self.old i (rebooked window (row_at self.old i)) }
     {
         let row = &mut self.rows[i];
         row.rebook(window);
@@ -56,10 +76,8 @@ impl Table {
 
     // Gives the row at place i a new present window.
     pub(crate) fn narrow(&mut self, i: usize, window: Window)
-        requires { i < vec_len self.old.rows }
-        ensures rows { self.new.rows.items ≡ slice_set self.old.rows.items i (narrowed window (row_at self.old.rows.items i)) }
-        ensures count { vec_len self.new.rows ≡ vec_len self.old.rows }
-        ensures room { vec_capacity self.new.rows ≡ vec_capacity self.old.rows }
+        requires { i < length self.old }
+        ensures { self.new ≡ slice_set self.old i (narrowed window (row_at self.old i)) }
     {
         let row = &mut self.rows[i];
         row.narrow(window);
@@ -67,26 +85,21 @@ impl Table {
 
     // Makes every present window the entered one again.
     pub(crate) fn reset(&mut self)
-        ensures rows { self.new.rows.items ≡ map reset self.old.rows.items }
-        ensures count { vec_len self.new.rows ≡ vec_len self.old.rows }
-        ensures room { vec_capacity self.new.rows ≡ vec_capacity self.old.rows }
+        ensures { self.new ≡ map reset self.old }
     {
-        for i in 0..self.rows.len() {
-            let row = &mut self.rows[i];
+        for row in self.rows.iter_mut() {
             row.reset();
         }
     }
 
     // Replaces all rows, where there is room for them.
     pub(crate) fn refill(&mut self, rows: &[Row])
-        requires { length rows.now ≤ vec_capacity self.old.rows }
-        ensures rows { self.new.rows.items ≡ rows.now }
-        ensures count { vec_len self.new.rows ≡ length rows.now }
-        ensures room { vec_capacity self.new.rows ≡ vec_capacity self.old.rows }
+        requires { length rows.now ≤ rows_max }
+        ensures { self.new ≡ rows.now }
     {
         self.rows.clear();
-        for i in 0..rows.len() {
-            self.rows.push_reserved(rows[i]);
+        for row in rows {
+            self.rows.push_reserved(*row);
         }
     }
 }

@@ -2,6 +2,7 @@
 use Rattle.std.proofs.Common.{inl, inr, arith}
 use Rattle.board.specs.declared.refusals.Refusal.TheVariants.{Profile, Bearer}
 use Rattle.board.specs.Calls.{stands, misnamed, WrongPair, profile, bearer_low, bearer_high}
+use Rattle.board.proofs.Ranges.{outside, within}
 use Rattle.board.proofs.Judging.{least_pair, number_small}
 use Rattle.board.proofs.places.place.Goals as goal
 
@@ -12,13 +13,19 @@ returns-then-pair-gt-PROFILE_MAX c =
       least = least_pair 2 c.args.pair (λ l. omega arith) (λ l. omega arith) (λ l. omega arith);
     })
 
-pub returns-then-pair-lt-BEARER_MIN : goal.returns-then-pair-lt-BEARER_MIN
-returns-then-pair-lt-BEARER_MIN c =
-    let wrong : WrongPair c.args.pair Bearer = elim c.then-pair-lt-BEARER_MIN.either [ inl l ↦ bearer_low l | inr h ↦ bearer_high h.1 ] in
+pub returns-then-not-contains : goal.returns-then-not-contains
+returns-then-not-contains c =
+    let wrong : WrongPair c.args.pair Bearer =
+    elim (outside _ _ _ _ c.new.ensures c.if-not-contains.ensures) [
+      | inl low ↦ bearer_low (omega arith)
+      | inr high ↦ bearer_high (omega arith)
+    ] in
     misnamed Bearer (record {
       wrong = wrong;
       least = least_pair 3 c.args.pair (λ l. omega arith) (λ l. omega arith) (λ l. omega arith);
     })
 
 pub returns : goal.returns
-returns c = stands (λ w h. number_small w (least_pair 11 c.args.pair (λ l. omega arith) (λ l. omega arith) (λ l. omega arith) w h))
+returns c =
+    let bearer = within _ _ _ _ c.new.ensures c.if-not-contains.ensures in
+    stands (λ w h. number_small w (least_pair 11 c.args.pair (λ l. omega arith) (λ l. omega arith) (λ l. omega arith) w h))

@@ -1,47 +1,23 @@
--- A test with nothing wrong makes a row within the limits, for which there is room.
-use Rattle.std.proofs.Common.{vec_items, arith}
+-- A test with nothing wrong makes a row, for which there is room, and the rows are then those that enter leaves.
+use Rattle.std.proofs.lemmas.Result.{err_from_is_err_and}
 use Rattle.board.specs.Held.{bookings}
-use Rattle.board.specs.Calls.{refuses}
-use Rattle.board.proofs.Kept.{fine_test, sound_added}
-use Rattle.board.proofs.Steps.{enters_added}
+use Rattle.board.specs.Calls.{adds, refuses}
+use Rattle.board.proofs.Kept.{fine_test}
+use Rattle.board.proofs.Sound.{entered_sound}
 use Rattle.board.proofs.boards.Board.enter.Goals as goal
 
-pub returns-in-Err : goal.returns-in-Err
-returns-in-Err c = refuses _ c.in-Err.ensures
-
-pub overflow_cast-window : goal.overflow_cast-window
-overflow_cast-window c = let f = fine_test (bookings c.args.self.now) c.args.test c.in-Ok.ensures in omega arith
-
-pub overflow_cast-window-2 : goal.overflow_cast-window-2
-overflow_cast-window-2 c = let f = fine_test (bookings c.args.self.now) c.args.test c.in-Ok.ensures in omega arith
-
-pub overflow_cast-duration : goal.overflow_cast-duration
-overflow_cast-duration c = let f = fine_test (bookings c.args.self.now) c.args.test c.in-Ok.ensures in omega arith
-
-pub overflow_cast-demand : goal.overflow_cast-demand
-overflow_cast-demand c = let f = fine_test (bookings c.args.self.now) c.args.test c.in-Ok.ensures in omega (arith, c.args.self.now.most)
+pub returns-in_err-row : goal.returns-in_err-row
+returns-in_err-row c =
+    let p = err_from_is_err_and c.from_residual.result c.from_residual.ensures.1 in
+    rw (p.1, p.2) (refuses _ c.in_err-row.ensures)
 
 pub add-requires : goal.add-requires
-add-requires c =
-    let f = fine_test (bookings c.args.self.now) c.args.test c.in-Ok.ensures in
-    omega (arith, c.args.self.now.room, c.args.self.now.table.rows.ok.0)
+add-requires c = (fine_test (bookings c.args.self.now) c.args.test c.in_ok-row.ensures.0).room
 
 pub invariant_of-self : goal.invariant_of-self
 invariant_of-self c =
     let b = c.args.self.now in
-    let f = fine_test (bookings b) c.args.test c.in-Ok.ensures in
-    let s = sound_added (bookings b) c.args.test (vec_items c.add.new.self.rows) c.add.ensures.rows
-    (record { named = b.named; sized = b.sized; windowed = b.windowed; apart = b.apart }) f in
-    record {
-      least = b.least;
-      most = b.most;
-      few = omega (arith, b.table.rows.ok.0, c.add.ensures.count);
-      room = omega (arith, b.room, c.add.ensures.room);
-      named = s.named;
-      sized = s.sized;
-      windowed = s.windowed;
-      apart = s.apart;
-    }
+    record { sound = rw (c.add.ensures, c.in_ok-row.ensures.1) (entered_sound (bookings b) b.sound (adds c.in_ok-row.ensures.0)) }
 
 pub returns : goal.returns
-returns c = enters_added (bookings c.args.self.now) c.args.test _ c.in-Ok.ensures c.add.ensures.rows
+returns c = rw (c.add.ensures, c.in_ok-row.ensures.1) (adds c.in_ok-row.ensures.0)

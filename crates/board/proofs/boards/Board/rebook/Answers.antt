@@ -1,49 +1,40 @@
--- The window is judged with the row's own duration; the rows left are within the limits, and are those that rebook leaves.
-use Rattle.std.proofs.Common.{◌≡◌, map, vec_items, ap, ◌∙◌, subst, arith, rules}
-use borrow.Author.Rules.{get_or_read}
+-- The window is judged with the row's own duration, and the rows left are those that rebook leaves.
+use Rattle.std.proofs.Common.{List, ap, ◌∙◌}
+use Rattle.std.proofs.lemmas.Result.{err_from_is_err_and}
 use Rattle.model.specs.declared.rows.Row.{Row}
-use Rattle.model.specs.Changes.{reset}
-use Rattle.board.specs.Held.{bookings}
 use Rattle.model.specs.Limits.{row_at}
-use Rattle.board.specs.Calls.{Misfit, unfit}
+use Rattle.board.specs.Held.{bookings}
+use Rattle.board.specs.Calls.{moves, unfit}
 use Rattle.board.specs.Calls as calls
-use Rattle.board.proofs.Kept.{sound_rebooked}
-use Rattle.board.proofs.Steps.{rebooks_moved}
+use Rattle.board.proofs.Found.{found_at, unknown_pair}
+use Rattle.board.proofs.Sound.{rebooked_sound}
 use Rattle.board.proofs.boards.Board.rebook.Goals as goal
 
-pub returns-then-not-fits : goal.returns-then-not-fits
-returns-then-not-fits c =
-    let read : c.index.result.now ≡ row_at (vec_items c.args.self.now.table.rows) c.in-Some.i = search (rules, get_or_read) in
-    unfit c.in-Some.i c.in-Some.ensures
-    (subst (λ (row : Row). Misfit row.duration c.args.release c.args.deadline) read c.if-not-fits.ensures)
+pub returns-in_err-i : goal.returns-in_err-i
+returns-in_err-i c =
+    let p = err_from_is_err_and c.from_residual.result c.from_residual.ensures.1 in
+    let none = unknown_pair _ _ _ _ c.find.ensures c.in_err-i.ensures.value in
+    rw (p.1, p.2, none.1) (calls.Rebooks.unknown none.0)
+
+pub returns-in_err-window : goal.returns-in_err-window
+returns-in_err-window c =
+    let at = found_at _ _ _ _ c.find.ensures c.in_ok-i.ensures.ok_part in
+    let p = err_from_is_err_and c.from_residual-in_err-window.result c.from_residual-in_err-window.ensures.1 in
+    let lasts = c.from.ensures ∙ ap (λ (rows : List Row). (row_at rows c.in_ok-i.i).duration) c.rows.ensures in
+    rw (p.1, p.2, c.in_err-window.ensures.1) (unfit _ at (rw lasts at c.in_err-window.ensures.0))
 
 pub invariant_of-self : goal.invariant_of-self
 invariant_of-self c =
     let b = c.args.self.now in
-    let at = c.in-Some.ensures in
-    let read : c.index.result.now ≡ row_at (vec_items b.table.rows) c.in-Some.i = search (rules, get_or_read) in
-    let room = subst (λ (row : Row). ¬ Misfit row.duration c.args.release c.args.deadline) read c.if-not-fits.ensures in
-    let s = sound_rebooked b.capacity c.in-Some.i (record { release = c.args.release; deadline = c.args.deadline })
-    (vec_items b.table.rows) (vec_items c.reset.new.self.rows) at.inside room
-    (c.reset.ensures.rows ∙ ap (map reset) c.rebook.ensures.rows)
-    (record { named = b.named; sized = b.sized; windowed = b.windowed; apart = b.apart }) in
+    let at = found_at _ _ _ _ c.find.ensures c.in_ok-i.ensures.ok_part in
+    let lasts = c.from.ensures ∙ ap (λ (rows : List Row). (row_at rows c.in_ok-i.i).duration) c.rows.ensures in
     record {
-      least = b.least;
-      most = b.most;
-      few = omega (arith, b.few, c.reset.ensures.count, c.rebook.ensures.count);
-      room = omega (arith, b.room, c.reset.ensures.room, c.rebook.ensures.room);
-      named = s.named;
-      sized = s.sized;
-      windowed = s.windowed;
-      apart = s.apart;
+      sound = rw (c.reset.ensures, c.rebook.ensures, c.in_ok-window.ensures.1)
+          (rebooked_sound (bookings b) b.sound (moves _ at (rw lasts at c.in_ok-window.ensures.0)));
     }
 
-pub returns-in-None : goal.returns-in-None
-returns-in-None c = calls.Rebooks.unknown c.in-None.ensures
-
-pub returns-else-not-fits : goal.returns-else-not-fits
-returns-else-not-fits c =
-    let read : c.index.result.now ≡ row_at (vec_items c.args.self.now.table.rows) c.in-Some.i = search (rules, get_or_read) in
-    rebooks_moved (bookings c.args.self.now) c.args.pair c.args.release c.args.deadline c.in-Some.i _ c.in-Some.ensures
-    (subst (λ (row : Row). ¬ Misfit row.duration c.args.release c.args.deadline) read c.if-not-fits.ensures)
-    (c.reset.ensures.rows ∙ ap (map reset) c.rebook.ensures.rows)
+pub returns : goal.returns
+returns c =
+    let at = found_at _ _ _ _ c.find.ensures c.in_ok-i.ensures.ok_part in
+    let lasts = c.from.ensures ∙ ap (λ (rows : List Row). (row_at rows c.in_ok-i.i).duration) c.rows.ensures in
+    rw (c.reset.ensures, c.rebook.ensures, c.in_ok-window.ensures.1) (moves _ at (rw lasts at c.in_ok-window.ensures.0))

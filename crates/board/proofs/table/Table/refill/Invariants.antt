@@ -1,9 +1,12 @@
--- The rows before i stand.
-use Rattle.std.proofs.Common.{◌≡◌, take, vec_items, vec_len, vec_capacity}
+-- The rows before the place that is reached stand.
+use Rattle.std.proofs.Common.{◌≡◌, ◌≤◌, take, vec_len, vec_capacity}
+use Rattle.model.specs.Sheets.{rows_max}
 use Rattle.board.proofs.table.Table.refill.Given as goal
 
-abbrev pub invariant-loop-i : goal.invariant-loop-i
-invariant-loop-i l =
-    (vec_items l.self.rows ≡ take l.i l.rows)
-    × (vec_len l.self.rows ≡ l.i)
-    × (vec_capacity l.self.rows ≡ vec_capacity l.initial.self.rows)
+abbrev pub invariant-loop-row : goal.invariant-loop-row
+invariant-loop-row l =
+    record {
+      rows : l.self-inside.rows.items ≡ take l.row-index l.rows;
+      count : vec_len l.self-inside.rows ≡ l.row-index;
+      room : rows_max ≤ vec_capacity l.self-inside.rows;
+    }

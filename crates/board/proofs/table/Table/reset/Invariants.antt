@@ -1,10 +1,8 @@
--- The rows before i are reset, and those from i on are as they were.
-use Rattle.std.proofs.Common.{◌≡◌, ◌++◌, map, take, drop, vec_items, vec_len, vec_capacity}
+-- The rows before the place that is reached are reset, and the others are as they were.
+use Rattle.std.proofs.Common.{◌≡◌, ◌++◌, map, take, drop}
 use Rattle.model.specs.Changes.{reset}
 use Rattle.board.proofs.table.Table.reset.Given as goal
 
-abbrev pub invariant-loop-i : goal.invariant-loop-i
-invariant-loop-i l =
-    (vec_items l.self.rows ≡ map reset (take l.i (vec_items l.initial.self.rows)) ++ drop l.i (vec_items l.initial.self.rows))
-    × (vec_len l.self.rows ≡ vec_len l.initial.self.rows)
-    × (vec_capacity l.self.rows ≡ vec_capacity l.initial.self.rows)
+abbrev pub invariant-loop-row : goal.invariant-loop-row
+invariant-loop-row l =
+    l.row-items ≡ map reset (take l.row-index l.initial.row-items) ++ drop l.row-index l.initial.row-items
