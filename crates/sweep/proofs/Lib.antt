@@ -1,4 +1,3 @@
 mod Figured
 mod Applied
-mod Sounds
 mod Rounded

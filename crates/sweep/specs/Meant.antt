@@ -16,12 +16,12 @@ pub rows_sound : (s : Present) → Sound (at_present (rows_of s))
 rows_sound s =
     let b = rows_of s in
     record {
-      some_capacity = s.least;
-      small_capacity = s.most;
-      few = omega (arith, present_count b, s.few);
+      some_capacity = s.sound.some_capacity;
+      small_capacity = s.sound.small_capacity;
+      few = omega (arith, present_count b, s.sound.few);
       each = λ k l.
           let l' : k < length b.rows = rw (← present_count b) l in
-          let size = s.sized k l' in
-          let window = s.windowed k l' in
+          let size = s.sound.sound.sized k l' in
+          let window = s.sound.sound.windowed k l' in
           rw (present_at b k l') (omega arith);
     }

@@ -8,7 +8,6 @@ use Rattle.board.specs.Held.{bookings}
 use Rattle.runs.specs.Applying.{at_present, figures, finds}
 use Rattle.sweep.specs.Windows.{window_at, TooShort}
 use Rattle.sweep.proofs.Applied.{squeezed, rested, fits, narrowed_so}
-use Rattle.sweep.proofs.Sounds.{board_sound}
 use Rattle.sweep.proofs.applying.apply.Goals as goal
 
 pub all_figures-windows-requires : goal.all_figures-windows-requires
@@ -63,7 +62,7 @@ write-requires g c =
     let ws = c.all_figures-windows.result in
     let figs = subst (λ (d : Bookings). (k : ℕ) → k < count (at_present d) → window_at ws k ≡ figures means (at_present d) k) same c.all_figures-windows.ensures in
     let wide = subst (λ (rows : List Row). (k : ℕ) → k < length rows → ¬ TooShort rows ws k) c.rows.ensures c.in_default.ensures in
-    let sound = board_sound c.args.board.now in
+    let sound = c.args.board.now.sound in
     (search rules, fits means b ws figs sound wide)
 
 pub returns : goal.returns

@@ -7,19 +7,18 @@ use Rattle.runs.proofs.OneRun.{every_list_of_calls_has_one_run}
 use Rattle.runs.proofs.Resumed.{resumes_here, resumes_again, resumes_settles, resumes_fails, rounds_small}
 use Rattle.runs.proofs.Rounds.{passes_less}
 use Rattle.runs.proofs.Running.{every_run_keeps_its_promise}
-use Rattle.sweep.proofs.Sounds.{board_sound}
 use Rattle.sweep.proofs.sweeping.sweep.Given.{Over}
 use Rattle.sweep.proofs.sweeping.sweep.Goals as goal
 use Rattle.sweep.proofs.sweeping.sweep.Goals.{in-Ok-Quiet, in-Err}
 
 pub loop-passed-init : goal.loop-passed-init
-loop-passed-init g c = resumes_here _ (bookings c.args.board.now) (board_sound c.args.board.now)
+loop-passed-init g c = resumes_here _ (bookings c.args.board.now) c.args.board.now.sound
 
 pub overflow_add-passed : goal.overflow_add-passed
-overflow_add-passed g c = omega (arith, rounds_small _ _ _ _ (board_sound c.args.board.now) c.loop-passed.invariant)
+overflow_add-passed g c = omega (arith, rounds_small _ _ _ _ c.args.board.now.sound c.loop-passed.invariant)
 
 pub overflow_add-result : goal.overflow_add-result
-overflow_add-result g c = omega (arith, rounds_small _ _ _ _ (board_sound c.args.board.now) c.loop-passed.invariant)
+overflow_add-result g c = omega (arith, rounds_small _ _ _ _ c.args.board.now.sound c.loop-passed.invariant)
 
 -- the three rules keep the law
 laws : (g : Over) (c : goal.In-Ok-Narrowed g) →
