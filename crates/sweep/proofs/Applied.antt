@@ -1,6 +1,7 @@
 -- From the windows that the code has found to what apply is.
-use Rattle.std.proofs.Common.{◌≡◌, ℕ, ◌<◌, List, length, None, sym, ap, ◌∙◌, arith}
+use Rattle.std.proofs.Common.{◌≡◌, ℕ, ◌<◌, List, length, None, sym, ap, ◌∙◌, subst, arith}
 use Rattle.model.specs.declared.entries.Entry.{Entry}
+use Rattle.model.specs.declared.rows.Row.{Row}
 use Rattle.model.specs.declared.windows.Window.{Window}
 use Rattle.model.specs.Changes.{narrowed}
 use Rattle.model.specs.Limits.{row_at}
@@ -13,12 +14,18 @@ use Rattle.runs.proofs.Boards.{present_count, present_at}
 use Rattle.runs.proofs.Narrowing.{insides}
 use Rattle.sweep.specs.Windows.{window_at, TooShort}
 
-module _ (rule : Meaning) (b : Bookings) (ws : List Window)
-    (found : (k : ℕ) → k < count (at_present b) → window_at ws k ≡ figures rule (at_present b) k) where
-  pub figure_at : (k : ℕ) → k < length b.rows → window_at ws k ≡ figures rule (at_present b) k
-  figure_at k l = found k (omega (arith, present_count b))
+-- The code asks the sheet of what it holds; that is what the board holds, and so are the rows.
+module _ (rule : Meaning) (b d : Bookings) (held : d ≡ b) (ws : List Window)
+    (found : (k : ℕ) → k < count (at_present d) → window_at ws k ≡ figures rule (at_present d) k) where
+  figure_at : (k : ℕ) → k < length b.rows → window_at ws k ≡ figures rule (at_present b) k
+  figure_at =
+      subst (λ (x : Bookings). (k : ℕ) → k < length x.rows → window_at ws k ≡ figures rule (at_present x) k) held
+      (λ k l. found k (omega (arith, present_count d)))
 
-  pub short : (k : ℕ) → k < length b.rows → TooShort b.rows ws k → Short rule (at_present b) k
+  none_on_board : rule.evidence (at_present d) ≡ None → rule.evidence (at_present b) ≡ None
+  none_on_board = subst (λ (x : Bookings). rule.evidence (at_present x) ≡ None) held
+
+  short : (k : ℕ) → k < length b.rows → TooShort b.rows ws k → Short rule (at_present b) k
   short k l h =
       let w = figure_at k l in
       let r = ap (λ (v : Window). v.release) w in
@@ -26,7 +33,7 @@ module _ (rule : Meaning) (b : Bookings) (ws : List Window)
       let p = ap (λ (e : Entry). e.duration) (present_at b k l) in
       omega arith
 
-  pub too_short : (k : ℕ) → k < length b.rows → Short rule (at_present b) k → TooShort b.rows ws k
+  too_short : (k : ℕ) → k < length b.rows → Short rule (at_present b) k → TooShort b.rows ws k
   too_short k l h =
       let w = figure_at k l in
       let r = ap (λ (v : Window). v.release) w in
@@ -34,31 +41,42 @@ module _ (rule : Meaning) (b : Bookings) (ws : List Window)
       let p = ap (λ (e : Entry). e.duration) (present_at b k l) in
       omega arith
 
-  pub squeezed : rule.evidence (at_present b) ≡ None → (k : ℕ) → k < length b.rows → TooShort b.rows ws k →
-      ((j : ℕ) → j < k → ¬ TooShort b.rows ws j) → Applies rule b (Squeezed k) b
-  squeezed none k l h before = squeezes none k l (short k l h) (λ j i s. before j i (too_short j (omega arith) s))
+  -- some row is too short
+  pub squeezed : rule.evidence (at_present d) ≡ None → (rows : List Row) → rows ≡ b.rows → (k : ℕ) →
+      (k < length rows) × TooShort rows ws k × ((j : ℕ) → j < k → ¬ TooShort rows ws j) → Applies rule b (Squeezed k) b
+  squeezed none rows same k first =
+      let (l, h, before) = subst (λ (x : List Row). (k < length x) × TooShort x ws k × ((j : ℕ) → j < k → ¬ TooShort x ws j)) same first in
+      squeezes (none_on_board none) k l (short k l h) (λ j i s. before j i (too_short j (omega arith) s))
 
-  pub rested : rule.evidence (at_present b) ≡ None → ((k : ℕ) → k < length b.rows → ¬ TooShort b.rows ws k) →
-      ((k : ℕ) → k < length b.rows → window_at ws k ≡ (row_at b.rows k).present) → Applies rule b Quiet b
-  rested none wide same = rests none (λ k l s. wide k l (too_short k l s)) (λ k l. sym (figure_at k l) ∙ same k l)
+  -- no row is too short
+  module _ (none : rule.evidence (at_present d) ≡ None) (rows : List Row) (same : rows ≡ b.rows)
+      (wide : (k : ℕ) → k < length rows → ¬ TooShort rows ws k) where
+    wide_on_board : (k : ℕ) → k < length b.rows → ¬ Short rule (at_present b) k
+    wide_on_board k l s =
+        subst (λ (x : List Row). (k : ℕ) → k < length x → ¬ TooShort x ws k) same wide k l (too_short k l s)
 
-  pub fits : SoundBookings b → ((k : ℕ) → k < length b.rows → ¬ TooShort b.rows ws k) → (k : ℕ) → k < length b.rows →
-      FitsIn (row_at b.rows k) (window_at ws k)
-  fits sound wide k l =
-      let i = insides rule b sound (λ j m s. wide j m (too_short j m s)) k l in
-      let w = figure_at k l in
-      let r = ap (λ (v : Window). v.release) w in
-      let d = ap (λ (v : Window). v.deadline) w in
-      let was = sound.sound.windowed k l in
-      record { later = omega arith; sooner = omega arith; room = omega arith }
+    pub rested : (still : List Row) → still ≡ b.rows → ((k : ℕ) → k < length still → window_at ws k ≡ (row_at still k).present) → Applies rule b Quiet b
+    rested still stays alike =
+        let alike_on_board = subst (λ (x : List Row). (k : ℕ) → k < length x → window_at ws k ≡ (row_at x k).present) stays alike in
+        rests (none_on_board none) wide_on_board (λ k l. sym (figure_at k l) ∙ alike_on_board k l)
 
-  pub narrowed_so : rule.evidence (at_present b) ≡ None → ((k : ℕ) → k < length b.rows → ¬ TooShort b.rows ws k) →
-      (k : ℕ) → k < length b.rows → ¬ (window_at ws k ≡ (row_at b.rows k).present) → (after : Bookings) → Writes (window_at ws) b after →
-      Applies rule b Narrowed after
-  narrowed_so none wide k l other after w =
-      narrows none (λ j m s. wide j m (too_short j m s)) k l (λ same. other (figure_at k l ∙ same)) after
-      (record {
-        capacity = w.capacity;
-        places = w.places;
-        each = λ j m. w.each j m ∙ ap (λ (v : Window). narrowed v (row_at b.rows j)) (figure_at j m);
-      })
+    pub fits : SoundBookings b → (k : ℕ) → k < length b.rows → FitsIn (row_at b.rows k) (window_at ws k)
+    fits sound k l =
+        let i = insides rule b sound wide_on_board k l in
+        let w = figure_at k l in
+        let r = ap (λ (v : Window). v.release) w in
+        let d = ap (λ (v : Window). v.deadline) w in
+        let was = sound.sound.windowed k l in
+        record { later = omega arith; sooner = omega arith; room = omega arith }
+
+    pub narrowed_so : (still : List Row) → still ≡ b.rows → ((k : ℕ) × (k < length still) × (¬ (window_at ws k ≡ (row_at still k).present))) →
+        (after : Bookings) → Writes (window_at ws) b after → Applies rule b Narrowed after
+    narrowed_so still stays unlike after w =
+        let (k, l, other) =
+        subst (λ (x : List Row). (k : ℕ) × (k < length x) × (¬ (window_at ws k ≡ (row_at x k).present))) stays unlike in
+        narrows (none_on_board none) wide_on_board k l (λ same. other (figure_at k l ∙ same)) after
+        (record {
+          capacity = w.capacity;
+          places = w.places;
+          each = λ j m. w.each j m ∙ ap (λ (v : Window). narrowed v (row_at b.rows j)) (figure_at j m);
+        })
