@@ -12,6 +12,7 @@ use records::reader::Reader;
 use records::records::{Fields, Record};
 
 // The test that a record's numbers ask for.
+// kept: neither type is of this crate, and those of the two know nothing of each other, so no From can stand between them.
 fn asked(fields: Fields) -> Test
     ensures { result ≡ asked_by fields }
 {
@@ -29,6 +30,7 @@ fn asked(fields: Fields) -> Test
 }
 
 // Reads the record that comes next, which has the given number, and enters it if it is a test.
+// kept: one struct for board and reader is no plainer, since it would hold a &mut, and each clause would say self.old.board.now for board.old.
 fn enter_record(board: &mut Board, reader: &mut Reader, number: u32) -> Result<(), Fault>
     ensures { MatchResult result (λ _. Booked (spot reader.old) (bookings board.old) (spot reader.new) (bookings board.new)) (λ f. BadRecord number (spot reader.old) (bookings board.old) f) }
 {

@@ -1,7 +1,7 @@
 // What can be wrong with a campaign file, and where.
 ghost use Rattle.std.specs.Prelude.{◌≡◌};
 ghost use Rattle.campaign.specs.Faults.{cause_number, cause_layer, layer_number};
-ghost use Rattle.campaign.specs.Loads.{unread_in};
+ghost use Rattle.campaign.specs.Loads.{unread_in, fault_at};
 
 use board::refusals::Refusal;
 use records::faults::{Misread, NumberFault, RecordFault};
@@ -46,6 +46,7 @@ pub struct Fault {
 
 impl Cause {
     // The number by which the cause is reported.
+    // kept: a cause holds what the layers below it met, and an enum whose variants hold values has no numbers of its own.
     pub fn number(self) -> u8
         ensures { result ≡ cause_number self }
     {
@@ -74,7 +75,7 @@ impl Cause {
 
     // The cause, as met in a record at a byte.
     pub(crate) fn at(self, number: u32, byte: usize) -> Fault
-        ensures { result ≡ record { cause = self; «record» = number; byte = byte } }
+        ensures { result ≡ fault_at number self byte }
     {
         Fault {
             cause: self,

@@ -1,11 +1,10 @@
-use Rattle.std.proofs.Common.{◌≡◌, ℕ, Ok, ap, ◌∙◌, rules}
+use Rattle.std.proofs.Common.{◌≡◌, Ok, ap, ◌∙◌, rules}
 use Rattle.std.proofs.lemmas.Result.{err_from_is_err_and}
 use Rattle.records.specs.Reading.{spot, said_by}
 use Rattle.records.proofs.Begins.{test_begins}
 use Rattle.records.proofs.Mapped.{mapped_err, mapped_ok}
-use Rattle.campaign.specs.declared.faults.Fault.{Fault}
 use Rattle.campaign.specs.declared.faults.Cause.TheVariants.{Board}
-use Rattle.campaign.specs.Loads.{unread_in, noted, tested, unread, refused}
+use Rattle.campaign.specs.Loads.{unread_in, fault_at, noted, tested, unread, refused}
 use Rattle.campaign.proofs.Refused.{enter_refused}
 use Rattle.campaign.proofs.entering.enter_record.Goals as goal
 
@@ -24,7 +23,7 @@ returns-in_err-map_err c =
     let read = mapped_ok _ c.record.result c.map_err.result _ c.map_err.ensures.cases c.in_ok-record.was in
     let e = rw read at c.record.ensures ∙ ap (λ x. Ok (said_by x, q)) c.in-Test.is in
     let (w, is, made) = mapped_err _ c.enter.result c.map_err-in-Test.result _ c.map_err-in-Test.ensures.cases c.in_err-map_err.was in
-    let fault : ℕ → Fault = λ at. record { cause = Board w; «record» = c.args.number; byte = at } in
+    let fault = fault_at c.args.number (Board w) in
     let met : c.in_err-map_err.field-0.0 ≡ fault c.in-Test.at = search rules in
     rw (p.1, p.2, met ∙ ap fault (test_begins _ _ _ _ _ e))
     (refused _ _ _ _ w e (enter_refused _ _ _ _ (rw (is, c.asked.ensures) at c.enter.ensures)))
