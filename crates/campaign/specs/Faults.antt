@@ -3,6 +3,8 @@ use Rattle.std.specs.Prelude.{ℕ}
 use Rattle.board.specs.Refusals.{number_of}
 use Rattle.records.specs.declared.faults.NumberFault.TheVariants.{Ends, TooLong}
 use Rattle.records.specs.declared.faults.RecordFault.TheVariants.{Number, Kind, LongText, TextPastEnd}
+use Rattle.campaign.specs.declared.faults.Layer.{Layer}
+use Rattle.campaign.specs.declared.faults.Layer.TheVariants.{Numbers, Records, Campaign}
 use Rattle.campaign.specs.declared.faults.Cause.{Cause}
 use Rattle.campaign.specs.declared.faults.Cause.TheVariants.{Record, TooManyRecords, LeftOver, Board}
 
@@ -16,6 +18,12 @@ cause_number (Record TextPastEnd) = 15
 cause_number TooManyRecords = 16
 cause_number LeftOver = 17
 cause_number (Board refusal) = number_of refusal
+
+-- The number of a layer.
+abbrev pub layer_number : Layer → ℕ
+layer_number Numbers = 1
+layer_number Records = 2
+layer_number Campaign = 3
 
 -- The layer of a cause: 1 is numbers, 2 is records, 3 is the campaign.
 abbrev pub cause_layer : Cause → ℕ

@@ -18,6 +18,10 @@ records_max = 128
 abbrev pub unread_in : ℕ → Misread → Fault
 unread_in n m = record { cause = cause.Record m.fault; «record» = n; byte = m.byte }
 
+-- A fault of a record at a byte.
+abbrev pub fault_at : ℕ → Cause → ℕ → Fault
+fault_at n why byte = record { cause = why; «record» = n; byte = byte }
+
 -- A fault of a record at a spot.
 abbrev pub fault_in : ℕ → Cause → Spot → Fault
 fault_in n why p = record { cause = why; «record» = n; byte = p.place }

@@ -12,6 +12,7 @@ use records::reader::Reader;
 use records::records::{Fields, Record};
 
 // The test that a record's numbers ask for.
+// kept: neither type is of this crate, and those of the two know nothing of each other, so no From can stand between them.
 fn asked(fields: Fields) -> Test
     ensures { result ≡ asked_by fields }
 {
@@ -29,36 +30,27 @@ fn asked(fields: Fields) -> Test
 }
 
 // Reads the record that comes next, which has the given number, and enters it if it is a test.
+// kept: one struct for board and reader is no plainer, since it would hold a &mut, and each clause would say self.old.board.now for board.old.
 fn enter_record(board: &mut Board, reader: &mut Reader, number: u32) -> Result<(), Fault>
     ensures { MatchResult result (λ _. Booked (spot reader.old) (bookings board.old) (spot reader.new) (bookings board.new)) (λ f. BadRecord number (spot reader.old) (bookings board.old) f) }
 {
-    let record = match reader.record() {
-        Ok(record) => record,
-        Err(misread) => return Err(Fault {
-            cause: Cause::Record(misread.fault),
-            record: number,
-            byte: misread.byte,
-        }),
-    };
-    match record {
-        Record::Note { .. } => Ok(()),
-        Record::Test { fields, at, .. } => match board.enter(asked(fields)) {
-            Ok(()) => Ok(()),
-            Err(refusal) => Err(Fault {
-                cause: Cause::Board(refusal),
-                record: number,
-                byte: at,
-            }),
-        },
+    let record = reader
+        .record()
+        .map_err(|misread| Fault::unread(number, misread))?;
+    if let Record::Test { fields, at, .. } = record {
+        board
+            .enter(asked(fields))
+            .map_err(|refusal| Cause::Board(refusal).at(number, at))?;
     }
+    Ok(())
 }
 
 // Reads so many records, and enters the tests among them.
 pub(crate) fn enter_records(board: &mut Board, reader: &mut Reader, count: u32) -> Result<(), Fault>
     ensures { MatchResult result (λ _. Front (spot reader.old) (bookings board.old) count (spot reader.new) (bookings board.new)) (λ f. BadFront (spot reader.old) (bookings board.old) count f) }
 {
-    for i in 0..count {
-        enter_record(board, reader, i + 1)?;
+    for number in 1..=count {
+        enter_record(board, reader, number)?;
     }
     Ok(())
 }

@@ -1,12 +1,30 @@
 // What can be wrong with a campaign file, and where.
 ghost use Rattle.std.specs.Prelude.{◌≡◌};
-ghost use Rattle.campaign.specs.Faults.{cause_number, cause_layer};
+ghost use Rattle.campaign.specs.Faults.{cause_number, cause_layer, layer_number};
+ghost use Rattle.campaign.specs.Loads.{unread_in, fault_at};
 
 use board::refusals::Refusal;
-use records::faults::{NumberFault, RecordFault};
+use records::faults::{Misread, NumberFault, RecordFault};
+
+// The layer that meets a fault, with the number by which it is reported.
+#[derive(Clone, Copy, PartialEq, Eq)]
+pub enum Layer {
+    Numbers = 1,
+    Records = 2,
+    Campaign = 3,
+}
+
+impl Layer {
+    // The number by which the layer is reported.
+    pub fn number(self) -> u8
+        ensures { result ≡ layer_number self }
+    {
+        self as u8
+    }
+}
 
 // Why a file is not loaded.
-#[derive(Clone, Copy)]
+#[derive(Clone, Copy, PartialEq, Eq)]
 pub enum Cause {
     // A number or a record of it cannot be read.
     Record(RecordFault),
@@ -19,7 +37,7 @@ pub enum Cause {
 }
 
 // A cause, the record that it was met in, counted from 1 with 0 for the header, and the byte, counted from 0.
-#[derive(Clone, Copy)]
+#[derive(Clone, Copy, PartialEq, Eq)]
 pub struct Fault {
     pub cause: Cause,
     pub record: u32,
@@ -28,6 +46,7 @@ pub struct Fault {
 
 impl Cause {
     // The number by which the cause is reported.
+    // kept: a cause holds what the layers below it met, and an enum whose variants hold values has no numbers of its own.
     pub fn number(self) -> u8
         ensures { result ≡ cause_number self }
     {
@@ -43,16 +62,34 @@ impl Cause {
         }
     }
 
-    // The layer that met it: 1 for numbers, 2 for records, 3 for the campaign.
-    pub fn layer(self) -> u8
-        ensures { result ≡ cause_layer self }
+    // The layer that met it.
+    pub fn layer(self) -> Layer
+        ensures { layer_number result ≡ cause_layer self }
     {
         match self {
-            Cause::Record(RecordFault::Number(_)) => 1,
-            Cause::Record(_) => 2,
-            Cause::TooManyRecords => 3,
-            Cause::LeftOver => 3,
-            Cause::Board(_) => 3,
+            Cause::Record(RecordFault::Number(_)) => Layer::Numbers,
+            Cause::Record(_) => Layer::Records,
+            Cause::TooManyRecords | Cause::LeftOver | Cause::Board(_) => Layer::Campaign,
         }
+    }
+
+    // The cause, as met in a record at a byte.
+    pub(crate) fn at(self, number: u32, byte: usize) -> Fault
+        ensures { result ≡ fault_at number self byte }
+    {
+        Fault {
+            cause: self,
+            record: number,
+            byte,
+        }
+    }
+}
+
+impl Fault {
+    // A fault that was met in reading a record.
+    pub(crate) fn unread(number: u32, misread: Misread) -> Fault
+        ensures { result ≡ unread_in number misread }
+    {
+        Cause::Record(misread.fault).at(number, misread.byte)
     }
 }

@@ -17,40 +17,20 @@ fn build(board: &mut Board, reader: &mut Reader) -> Result<u32, Fault>
     ensures { MatchResult result (λ count. Heads (spot reader.old) (bookings board.old) count (spot reader.new) (bookings board.new)) (λ f. BadHeader (spot reader.old) (bookings board.old) f) }
 {
     let byte = reader.place();
-    let capacity = match reader.number() {
-        Ok(capacity) => capacity,
-        Err(misread) => return Err(Fault {
-            cause: Cause::Record(misread.fault),
-            record: 0,
-            byte: misread.byte,
-        }),
-    };
-    match board.build(capacity) {
-        Ok(()) => {}
-        Err(refusal) => return Err(Fault {
-            cause: Cause::Board(refusal),
-            record: 0,
-            byte,
-        }),
-    }
+    let capacity = reader
+        .number()
+        .map_err(|misread| Fault::unread(0, misread))?;
+    board
+        .build(capacity)
+        .map_err(|refusal| Cause::Board(refusal).at(0, byte))?;
     let byte = reader.place();
-    match reader.number() {
-        Ok(count) => {
-            if count > RECORDS_MAX {
-                return Err(Fault {
-                    cause: Cause::TooManyRecords,
-                    record: 0,
-                    byte,
-                });
-            }
-            Ok(count)
-        }
-        Err(misread) => Err(Fault {
-            cause: Cause::Record(misread.fault),
-            record: 0,
-            byte: misread.byte,
-        }),
+    let count = reader
+        .number()
+        .map_err(|misread| Fault::unread(0, misread))?;
+    if count > RECORDS_MAX {
+        return Err(Cause::TooManyRecords.at(0, byte));
     }
+    Ok(count)
 }
 
 // Loads a file into a board, of which a part may be loaded where a fault is met.
@@ -63,11 +43,7 @@ fn fill(board: &mut Board, input: &[u8]) -> Result<(), Fault>
     if reader.at_end() {
         Ok(())
     } else {
-        Err(Fault {
-            cause: Cause::LeftOver,
-            record: count,
-            byte: reader.place(),
-        })
+        Err(Cause::LeftOver.at(count, reader.place()))
     }
 }
 
@@ -76,11 +52,9 @@ pub fn load(board: &mut Board, input: &[u8]) -> Result<(), Fault>
     ensures { Loads input.now (bookings board.old) result (bookings board.new) }
 {
     let saved = board.save();
-    match fill(board, input) {
-        Ok(()) => Ok(()),
-        Err(fault) => {
-            board.restore(&saved);
-            Err(fault)
-        }
+    let loaded = fill(board, input);
+    if loaded.is_err() {
+        board.restore(&saved);
     }
+    loaded
 }

@@ -25,7 +25,7 @@ fn show(rt: &HostRuntime, board: &mut Board, name: &str, file: &[u8]) -> anyhow:
     match loaded {
         Ok(()) => print!(rt; "{name}: LOADED, ")?,
         Err(fault) => {
-            let (number, layer) = (fault.cause.number(), fault.cause.layer());
+            let (number, layer) = (fault.cause.number(), fault.cause.layer().number());
             print!(rt;
                 "{name}: REFUSED {number} {layer} {} {}, ",
                 fault.record, fault.byte

@@ -69,10 +69,10 @@ small_weight (suc (suc (suc zero))) h = omega arith
 small_weight (suc (suc (suc (suc n)))) h = absurd (omega arith)
 
 -- a group adds to what is below its weight no more than to make the next
-pub group_below : (v b w : ℕ) → v < w → v + b % 128 * w < 128 * w
-group_below v b w h =
-    let r : b % 128 ≤ 127 = omega (arith, mod-lt b {m = 128} (omega arith)) in
-    omega (arith, mul-le-mul_right {m = b % 128} {n = 127} w r)
+pub group_below : (v g b w : ℕ) → g ≡ b % 128 → v < w → v + g * w < 128 * w
+group_below v g b w e h =
+    let r : g ≤ 127 = omega (arith, mod-lt b {m = 128} (omega arith)) in
+    omega (arith, mul-le-mul_right {m = g} {n = 127} w r)
 
 -- what bytes write is below the weight of the next group
 pub value_below : (w : List ℕ) → value_of w < 128 ^ length w

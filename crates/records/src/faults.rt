@@ -1,7 +1,8 @@
 // What can be wrong with the bytes of a number or of a record.
+ghost use Rattle.std.specs.Prelude.{◌≡◌};
 
 // A number cannot be read.
-#[derive(Clone, Copy)]
+#[derive(Clone, Copy, PartialEq, Eq)]
 pub enum NumberFault {
     // The input ends before a group that is due.
     Ends,
@@ -10,7 +11,7 @@ pub enum NumberFault {
 }
 
 // A record cannot be read.
-#[derive(Clone, Copy)]
+#[derive(Clone, Copy, PartialEq, Eq)]
 pub enum RecordFault {
     // One of its numbers cannot be read.
     Number(NumberFault),
@@ -23,8 +24,17 @@ pub enum RecordFault {
 }
 
 // A fault and its byte: where the number, the kind or the text's length begins.
-#[derive(Clone, Copy)]
+#[derive(Clone, Copy, PartialEq, Eq)]
 pub struct Misread {
     pub fault: RecordFault,
     pub byte: usize,
+}
+
+impl RecordFault {
+    // The fault at a byte.
+    pub(crate) fn at(self, byte: usize) -> Misread
+        ensures { result ≡ record { fault = self; byte = byte } }
+    {
+        Misread { fault: self, byte }
+    }
 }

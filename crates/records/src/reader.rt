@@ -21,6 +21,6 @@ impl<'a> Reader<'a> {
     pub fn at_end(&self) -> bool
         ensures { result ≡ (length self.now.rest.now == 0) }
     {
-        self.rest.len() == 0
+        self.rest.is_empty()
     }
 }

@@ -1,6 +1,6 @@
 // What comes next, read as far as it goes. A reader that met a fault may have moved.
-ghost use Rattle.std.specs.Prelude.{◌^◌, ◌<◌, IfOk};
-ghost use Rattle.records.specs.Records.{number_here, text_here, fields_here, record_here};
+ghost use Rattle.std.specs.Prelude.{◌≡◌, ◌^◌, ◌<◌, ◌≤◌, length, take, IfOk};
+ghost use Rattle.records.specs.Records.{past, number_here, text_here, fields_here, record_here};
 ghost use Rattle.records.specs.Reading.{spot, Takes, itself, said_by};
 
 use crate::faults::{Misread, RecordFault};
@@ -15,22 +15,29 @@ const GROUPS_MAX: usize = 3;
 const TEXT_MAX: u32 = 200;
 
 impl<'a> Reader<'a> {
+    // Goes past so many bytes, which are left of the input, and answers them.
+    fn pass(&mut self, count: usize) -> &'a [u8]
+        requires { count ≤ length self.old.rest.now }
+        ensures bytes { result.now ≡ take count self.old.rest.now }
+        ensures moved { spot self.new ≡ past count (spot self.old) }
+    {
+        let (bytes, rest) = self.rest.split_at(count);
+        self.rest = rest;
+        self.place += count;
+        bytes
+    }
+
     // The number here.
     pub(crate) fn take_number(&mut self) -> Result<u32, Misread>
         ensures exact { Takes itself number_here (spot self.old) result (spot self.new) }
         ensures small { IfOk result (λ v. v < 2 ^ 21) }
     {
-        match number(self.rest, GROUPS_MAX) {
-            Ok((value, length)) => {
-                self.rest = &self.rest[length..];
-                self.place += length;
-                Ok(value)
-            }
-            Err(fault) => Err(Misread {
-                fault: RecordFault::Number(fault),
-                byte: self.place,
-            }),
-        }
+        let byte = self.place;
+        let (value, count) = number(self.rest, GROUPS_MAX).map_err(|fault| RecordFault::Number(
+            fault,
+        ).at(byte))?;
+        self.pass(count);
+        Ok(value)
     }
 
     // The text here: its length, then its bytes.
@@ -38,43 +45,28 @@ impl<'a> Reader<'a> {
         ensures { Takes (λ x. x.now) text_here (spot self.old) result (spot self.new) }
     {
         let byte = self.place;
-        let length = self.take_number()?;
-        if length > TEXT_MAX {
-            return Err(Misread {
-                fault: RecordFault::LongText,
-                byte,
-            });
+        let count = self.take_number()?;
+        if count > TEXT_MAX {
+            return Err(RecordFault::LongText.at(byte));
         }
-        let length = length as usize;
-        if length > self.rest.len() {
-            return Err(Misread {
-                fault: RecordFault::TextPastEnd,
-                byte,
-            });
+        let count = count as usize;
+        if count > self.rest.len() {
+            return Err(RecordFault::TextPastEnd.at(byte));
         }
-        let bytes = &self.rest[0..length];
-        self.rest = &self.rest[length..];
-        self.place += length;
-        Ok(bytes)
+        Ok(self.pass(count))
     }
 
     // The six numbers of a test here.
     fn take_fields(&mut self) -> Result<Fields, Misread>
         ensures { Takes itself fields_here (spot self.old) result (spot self.new) }
     {
-        let profile = self.take_number()?;
-        let bearer = self.take_number()?;
-        let release = self.take_number()?;
-        let deadline = self.take_number()?;
-        let duration = self.take_number()?;
-        let demand = self.take_number()?;
         Ok(Fields {
-            profile,
-            bearer,
-            release,
-            deadline,
-            duration,
-            demand,
+            profile: self.take_number()?,
+            bearer: self.take_number()?,
+            release: self.take_number()?,
+            deadline: self.take_number()?,
+            duration: self.take_number()?,
+            demand: self.take_number()?,
         })
     }
 
@@ -93,10 +85,7 @@ impl<'a> Reader<'a> {
                 label: self.take_text()?,
                 at,
             }),
-            _ => Err(Misread {
-                fault: RecordFault::Kind,
-                byte: at,
-            }),
+            _ => Err(RecordFault::Kind.at(at)),
         }
     }
 }

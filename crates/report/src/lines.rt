@@ -106,7 +106,7 @@ impl Text {
     {
         self.word(b"REFUSED ");
         self.figure(fault.cause.number() as u64, b' ');
-        self.figure(fault.cause.layer() as u64, b' ');
+        self.figure(fault.cause.layer().number() as u64, b' ');
         self.figure(fault.record as u64, b' ');
         self.figure(fault.byte as u64, b'\n');
     }

@@ -26,5 +26,5 @@ pub returns-else-at_end : goal.returns-else-at_end
 returns-else-at_end c =
     let n = length c.enter_records.new.reader.rest.now in
     let left : n ≡ 0 → ⊥ = eqb-false n 0 (sym c.if-at_end.ensures) in
-    rw c.place.ensures
+    rw (c.at.ensures, c.place.ensures)
     (left_over _ _ _ _ _ (rw c.new-reader.ensures at c.in_ok-count.ensures) c.in_ok-enter_records.ensures (omega arith))

@@ -26,7 +26,7 @@ returns-in_err-take_text-in-1 c =
     c.in_ok-take_number.ensures.exact c.in-1.is c.in_ok-take_fields-in-1.ensures c.in_err-take_text-in-1.ensures)
 
 pub returns-in_default : goal.returns-in_default
-returns-in_default c = record_kind _ _ _ c.in_ok-take_number.ensures.exact (λ z. omega arith) (λ z. omega arith)
+returns-in_default c = rw c.at.ensures (record_kind _ _ _ c.in_ok-take_number.ensures.exact (λ z. omega arith) (λ z. omega arith))
 
 pub returns-in_ok-take_text-in-0 : goal.returns-in_ok-take_text-in-0
 returns-in_ok-take_text-in-0 c =

@@ -12,7 +12,7 @@ returns c =
     let number : shown c.figure.new.self ≡ shown c.word.new.self ++ before_space (cause_number f.cause) =
     c.figure.ensures.text ∙ ap (λ (n : ℕ). shown c.word.new.self ++ before_space n) c.number.ensures in
     let layer : shown c.figure-2.new.self ≡ shown c.figure.new.self ++ before_space (cause_layer f.cause) =
-    c.figure-2.ensures.text ∙ ap (λ (n : ℕ). shown c.figure.new.self ++ before_space n) c.layer.ensures in
+    c.figure-2.ensures.text ∙ ap (λ (n : ℕ). shown c.figure.new.self ++ before_space n) (c.number-2.ensures ∙ c.layer.ensures) in
     record {
       text = joined_5 (shown c.args.self.now) (shown c.word.new.self) (shown c.figure.new.self) (shown c.figure-2.new.self)
           (shown c.figure-3.new.self) (shown c.figure-4.new.self) (codes "REFUSED ") (before_space (cause_number f.cause))
