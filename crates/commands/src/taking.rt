@@ -25,10 +25,7 @@ fn letter(word: &str) -> Option<char>
 {
     let mut chars = word.chars();
     let letter = chars.next()?;
-    match chars.next() {
-        None => Some(letter),
-        Some(_) => None,
-    }
+    chars.next().is_none().then_some(letter)
 }
 
 impl<'a> Words<'a> {
@@ -78,9 +75,6 @@ impl<'a> Words<'a> {
     pub(crate) fn whole(&mut self, command: Command) -> Option<Command>
         ensures { result ≡ whole command (left self.old) }
     {
-        match self.word() {
-            None => Some(command),
-            Some(_) => None,
-        }
+        self.word().is_none().then_some(command)
     }
 }
