@@ -8,7 +8,8 @@ use itoa::{Buffer, Integer};
 use model::intervals::Interval;
 
 // What can be written at the end of a text.
-// kept: no `impl Display` with `write!`, since no clause excludes that a formatter fails, and a report that fits is never refused
+// kept: tried `impl Display` with `write!`, and the proof did not close: no clause says when a formatter fails, so after an `Err` of
+// `write!` it stays open that the buffer is shorter than the text
 pub(crate) trait Lines {
     // The bytes of a value.
     ghost lines: { Self → List ℕ };
