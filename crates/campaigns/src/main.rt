@@ -4,25 +4,16 @@
 use anyhow::anyhow;
 use board::boards::Board;
 use planning::plan;
-use std::alloc::Global;
+use report::texts::REPORT_MAX;
 use std::io::{BufRead, BufReader, Write};
-
-// The bytes that a line writes in hexadecimal.
-fn bytes(heap: Global, line: &str) -> anyhow::Result<Vec<u8>> {
-    let mut file = Vec::new(heap);
-    for word in line.split_whitespace() {
-        file.push(u8::from_str_radix(word, 16)?)?;
-    }
-    Ok(file)
-}
 
 // Plans a file, and prints the report, or what is wrong with the file.
 fn show(rt: &HostRuntime, board: &mut Board, file: &[u8]) -> anyhow::Result<()> {
-    let mut out = [0u8; 8192];
-    match plan(board, file, &mut out) {
-        Ok(n) => Ok(rt.stdout().write_all(&out[0..n])?),
-        Err(_) => Err(anyhow!("the report is longer than its buffer")),
-    }
+    let mut out = [0u8; REPORT_MAX];
+    let length = plan(board, file, &mut out).map_err(|_| anyhow!(
+        "the report is longer than its buffer"
+    ))?;
+    Ok(rt.stdout().write_all(&out[..length])?)
 }
 
 // Runs the files of the input, one in each line; a line that begins with # says what the files after it are, and is printed.
@@ -35,7 +26,12 @@ fn run(rt: &HostRuntime) -> anyhow::Result<()> {
         if line.as_str().starts_with('#') {
             println!(rt; "{line}")?;
         } else {
-            let file = bytes(heap, line.as_str())?;
+            // The words of the line are bytes in hexadecimal.
+            let file: Vec<u8> = line
+                .as_str()
+                .split_whitespace()
+                .map(|word| -> anyhow::Result<u8> { Ok(u8::from_str_radix(word, 16)?) })
+                .try_collect(heap)?;
             show(rt, &mut board, file.as_slice())?;
         }
     }

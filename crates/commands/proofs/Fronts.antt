@@ -1,9 +1,17 @@
 -- What stands at the front of words, from what its parts are.
-use Rattle.std.proofs.Common.{◌≡◌, ℕ, List, Some, None}
+use Rattle.std.proofs.Common.{◌≡◌, ℕ, List, Some, None, Option}
 use Rattle.model.specs.declared.rows.Pair.{Pair}
 use Rattle.commands.specs.declared.commands.Command.TheVariants.{Enter, Rebook}
 use Rattle.commands.specs.Lines.{Word}
-use Rattle.commands.specs.Commands.{number_first, pair_first, enter_of, rebook_of, whole}
+use Rattle.commands.specs.Commands.{Front, ◌then◌, number_first, pair_first, enter_of, rebook_of, whole}
+
+-- ---- one thing, and what follows it
+
+pub none_there : {A B : Type 0} (front : Front A) (go : A → List Word → Option B) → front ≡ None → (front then go) ≡ None
+none_there front go h = rw h
+
+pub one_there : {A B : Type 0} (front : Front A) (go : A → List Word → Option B) (a : A) (ws : List Word) → front ≡ Some (a, ws) → (front then go) ≡ go a ws
+one_there front go a ws h = rw h
 
 -- ---- a pair
 

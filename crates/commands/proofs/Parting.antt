@@ -1,13 +1,23 @@
 -- The words of a line that a space parts.
-use Rattle.std.proofs.Common.{◌≡◌, ℕ, suc, ◌<◌, Bool, true, false, cond, eqb, List, [], ◌∷◌, ◌++◌, length, get_or, IsUtf8, sym, refl, ap, ◌∙◌, append_assoc, append-nil, arith, eqb-true}
+use Rattle.std.proofs.Common.{◌≡◌, ℕ, suc, ◌<◌, Bool, true, false, not, cond, eqb, List, [], ◌∷◌, ◌++◌, length, get_or, drop, Some, None, MatchOption, Option, Bor, IsUtf8, sym, refl, ap, ◌∙◌, append_assoc, append-nil, arith, eqb-true}
 use lib.Utf8.{encode}
 use Rattle.std.proofs.lemmas.Bool.{ne_eqb, cond-false}
 use Rattle.std.proofs.lemmas.Str.{IsUtf8-nil, IsUtf8-append, IsUtf8-encode}
+use borrow.Author.Tests.{eqb-false}
+use Rattle.std.proofs.lemmas.Str.{len_utf8_bounds}
+use Rattle.std.proofs.lemmas.Str.Pattern.{drop_at_char}
+use Rattle.std.specs.Bool.{then_some}
+use Rattle.std.specs.Option.{unwrap_or}
+use Rattle.std.specs.Str.Pattern.{CutsPrefixes, FindsCharPrefix, IsFullyTrimmed}
 use Rattle.commands.specs.Lines.{Word, ended, words_after, words}
 
 -- Bytes without a space.
 abbrev pub Unparted : List ℕ → Type 0
 Unparted f = (i : ℕ) → i < length f → get_or f i 0 ≡ 32 → ⊥
+
+empty_nil : (f : List ℕ) → length f ≡ 0 → f ≡ []
+empty_nil [] h = refl
+empty_nil (b ∷ f) h = absurd (omega arith)
 
 run : (w f s : List ℕ) → Unparted f → words_after w (f ++ s) ≡ words_after (w ++ f) s
 unfolding words_after
@@ -40,6 +50,37 @@ pub no_piece : (f : List ℕ) → length f ≡ 0 → words f ≡ []
 unfolding words_after
 no_piece [] h = refl
 no_piece (b ∷ f) h = absurd (omega arith)
+
+-- ---- the word at the front of a line
+
+-- The spaces before a line add no word.
+pub trimmed : (s r ns : List ℕ) → CutsPrefixes (FindsCharPrefix 32) s ns r → words r ≡ words s
+trimmed s r [] h = ap words h
+trimmed s r (n ∷ ns) (m, cuts, at, e) =
+    let space : m ≡ 32 ∷ drop n m = drop_at_char 32 m 0 n at (omega arith) in
+    ap words e ∙ sym (gap m [] (drop n m) space refl) ∙ trimmed s m ns cuts
+
+-- No space is before a line that is trimmed.
+pub no_space : (r rest : List ℕ) → IsFullyTrimmed (FindsCharPrefix 32) r → r ≡ 32 ∷ rest → ⊥
+unfolding encode
+no_space r rest (None, none, z) e = none rest e
+no_space r rest (Some n, at, z) e = omega (arith, at.ends, len_utf8_bounds 32)
+
+-- Where a line has no space before it, its first word ends at the next space, or it is the whole line.
+pub fronted : (s : List ℕ) (line nothing : Bor (List ℕ)) (o : Option (Bor (List ℕ) × Bor (List ℕ))) (empty : Bool) →
+    nothing.now ≡ [] → words line.now ≡ words s → ((rest : List ℕ) → line.now ≡ 32 ∷ rest → ⊥) →
+    MatchOption o (Unparted line.now) (λ x. (line.now ≡ x.0.now ++ (32 ∷ x.1.now)) × Unparted x.0.now) →
+    empty ≡ eqb (length (unwrap_or o (line, nothing)).0.now) 0 →
+    MatchOption (then_some (not empty) (unwrap_or o (line, nothing)).0) (words s ≡ [])
+    (λ w. words s ≡ w.now ∷ words (unwrap_or o (line, nothing)).1.now)
+unfolding words_after
+fronted s line nothing None true z same space parts e = sym same ∙ no_piece line.now (eqb-true (length line.now) 0 (sym e))
+fronted s line nothing None false z same space parts e =
+    sym same ∙ last_piece line.now parts (eqb-false (length line.now) 0 (sym e)) ∙ ap (λ v. line.now ∷ words v) (sym z)
+fronted s line nothing (Some (f, rest)) true z same space parts e =
+    absurd (space rest.now (parts.0 ∙ ap (λ v. v ++ (32 ∷ rest.now)) (empty_nil f.now (eqb-true (length f.now) 0 (sym e)))))
+fronted s line nothing (Some (f, rest)) false z same space parts e =
+    sym same ∙ piece line.now f.now rest.now parts.0 parts.1 (eqb-false (length f.now) 0 (sym e))
 
 -- ---- lines without words
 

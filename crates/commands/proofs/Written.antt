@@ -1,12 +1,13 @@
 -- The number and the letter that a word writes.
-use Rattle.std.proofs.Common.{◌≡◌, ℕ, ◌^◌, ◌<◌, Bool, true, false, cond, ◌&&◌, ltb, List, [], ◌∷◌, ◌++◌, length, get_or, Some, None, Ok, Err, IsUtf8, Result, sym, refl, ap, ◌∙◌, arith, ltb-true}
+use Rattle.std.proofs.Common.{◌≡◌, ℕ, ◌^◌, ◌<◌, Bool, true, false, cond, ◌&&◌, ltb, not, List, [], ◌∷◌, ◌++◌, length, get_or, slice_get, Some, None, is_some, Ok, Err, IsUtf8, Result, sym, refl, ap, ◌∙◌, arith, ltb-true}
 use lib.Utf8.{encode}
 use Rattle.std.proofs.lemmas.Str.Parse.{IsNumeralModel, numerals_by_value, tells_all_ascii_digits, not_in_digits}
 use Rattle.std.proofs.lemmas.Bool.{lt-ltb, cond-true}
-use Rattle.std.proofs.lemmas.Str.{chars-nil, chars_past_char, IsUtf8-past_char}
+use Rattle.std.proofs.lemmas.Str.{chars-nil, chars_past_char}
 use Rattle.std.specs.Result.{OkIff, result_ok}
 use Rattle.std.specs.Str.Parse.{digits_value}
-use Rattle.std.specs.Str.{all_ascii_digits}
+use Rattle.std.specs.Str.{all_ascii_digits, chars}
+use Rattle.std.specs.Bool.{then_some}
 use Rattle.commands.specs.Lines.{only, number_of, letter_of}
 
 pub own : IsNumeralModel (λ ds. all_ascii_digits ds ≡ true) (digits_value 10)
@@ -44,14 +45,16 @@ parsed w (Err e) h = sym (unwritten w h)
 pub signed_word : (w : List ℕ) → get_or w 0 0 ≡ 43 → number_of w ≡ None
 signed_word w e = unwritten w (λ h. not_in_digits own w 43 h.0 (λ i. omega arith) 0 h.1 e)
 
+alone : (cs : List ℕ) (c : ℕ) (last : Bool) → is_some (slice_get cs 0) ≡ not last → then_some last c ≡ only (c ∷ cs)
+alone [] c true h = refl
+alone [] c false h = cc
+alone (d ∷ cs) c true h = cc
+alone (d ∷ cs) c false h = refl
+
 pub no_letter : (w : List ℕ) → length w ≡ 0 → letter_of w ≡ None
 no_letter [] h = ap only chars-nil
 no_letter (b ∷ w) h = absurd (omega arith)
 
-pub one_letter : (w rest : List ℕ) (c : ℕ) → IsUtf8 w → w ≡ encode c ++ rest → length rest ≡ 0 → letter_of w ≡ Some c
-one_letter w [] c u e h = ap only (chars_past_char w [] c u e ∙ ap (λ cs. c ∷ cs) chars-nil)
-one_letter w (b ∷ rest) c u e h = absurd (omega arith)
-
-pub more_letters : (w rest tail : List ℕ) (c d : ℕ) → IsUtf8 w → w ≡ encode c ++ rest → rest ≡ encode d ++ tail → letter_of w ≡ None
-more_letters w rest tail c d u e f =
-    ap only (chars_past_char w rest c u e ∙ ap (λ cs. c ∷ cs) (chars_past_char rest tail d (IsUtf8-past_char w rest c u e) f))
+-- Where a word begins with a character, that is its letter if none comes after it.
+pub first_letter : (w rest : List ℕ) (c : ℕ) (last : Bool) → IsUtf8 w → w ≡ encode c ++ rest → is_some (slice_get (chars rest) 0) ≡ not last → then_some last c ≡ letter_of w
+first_letter w rest c last u e h = alone (chars rest) c last h ∙ ap only (sym (chars_past_char w rest c u e))

@@ -1,6 +1,6 @@
 // Reading a line.
 ghost use Rattle.std.specs.Prelude.{◌≡◌, MatchBool, slice_index};
-ghost use Rattle.commands.specs.Commands.{build_of, enter_of, withdraw_of, rebook_of, place_of, apply_of, named, Reads, Ends};
+ghost use Rattle.commands.specs.Commands.{named, Reads, Ends};
 ghost use Rattle.commands.specs.Taking.{left};
 
 use crate::commands::{Command, Line};
@@ -8,89 +8,39 @@ use crate::words::Words;
 use board::bookings::Test;
 use std::str::from_utf8;
 
-// What `enter` is given.
-fn enter(mut words: Words<'_>) -> Option<Command>
-    ensures { result ≡ enter_of (left words.entry) }
-{
-    let pair = words.pair()?;
-    let release = words.number()?;
-    let deadline = words.number()?;
-    let duration = words.number()?;
-    let demand = words.number()?;
-    words.whole(Command::Enter(Test {
-        pair,
-        release,
-        deadline,
-        duration,
-        demand,
-    }))
-}
-
-// What `rebook` is given.
-fn rebook(mut words: Words<'_>) -> Option<Command>
-    ensures { result ≡ rebook_of (left words.entry) }
-{
-    let pair = words.pair()?;
-    let release = words.number()?;
-    let deadline = words.number()?;
-    words.whole(Command::Rebook {
-        pair,
-        release,
-        deadline,
-    })
-}
-
-// What the other commands are given.
-fn build(mut words: Words<'_>) -> Option<Command>
-    ensures { result ≡ build_of (left words.entry) }
-{
-    let capacity = words.number()?;
-    words.whole(Command::Build(capacity))
-}
-
-fn withdraw(mut words: Words<'_>) -> Option<Command>
-    ensures { result ≡ withdraw_of (left words.entry) }
-{
-    let pair = words.pair()?;
-    words.whole(Command::Withdraw(pair))
-}
-
-fn place(mut words: Words<'_>) -> Option<Command>
-    ensures { result ≡ place_of (left words.entry) }
-{
-    let pair = words.pair()?;
-    words.whole(Command::Place(pair))
-}
-
-fn apply(mut words: Words<'_>) -> Option<Command>
-    ensures { result ≡ apply_of (left words.entry) }
-{
-    let letter = words.letter()?;
-    words.whole(Command::Apply(letter))
-}
-
-// The command of a name.
+// The command of a name, given the words after it, no fewer and no more.
 fn command(name: &str, mut words: Words<'_>) -> Option<Command>
     ensures { result ≡ named name.now (left words.entry) }
 {
-    match name {
-        "build" => build(words),
-        "enter" => enter(words),
-        "withdraw" => withdraw(words),
-        "rebook" => rebook(words),
-        "place" => place(words),
-        "apply" => apply(words),
-        "sweep" => words.whole(Command::Sweep),
-        "show" => words.whole(Command::Show),
-        _ => None,
-    }
+    let command = match name {
+        "build" => Command::Build(words.number()?),
+        "enter" => Command::Enter(Test {
+            pair: words.pair()?,
+            release: words.number()?,
+            deadline: words.number()?,
+            duration: words.number()?,
+            demand: words.number()?,
+        }),
+        "withdraw" => Command::Withdraw(words.pair()?),
+        "rebook" => Command::Rebook {
+            pair: words.pair()?,
+            release: words.number()?,
+            deadline: words.number()?,
+        },
+        "place" => Command::Place(words.pair()?),
+        "apply" => Command::Apply(words.letter()?),
+        "sweep" => Command::Sweep,
+        "show" => Command::Show,
+        _ => return None,
+    };
+    words.whole(command)
 }
 
 // Whether a line begins with #.
 fn is_note(line: &[u8]) -> bool
     ensures { MatchBool result (slice_index line.now 0 ≡ 35) (¬ (slice_index line.now 0 ≡ 35)) }
 {
-    line.len() > 0 && line[0] == b'#'
+    line.starts_with(b"#")
 }
 
 // What a line of bytes is, which has no end of line.
@@ -107,18 +57,12 @@ pub fn read(line: &[u8]) -> Line
     let Some(name) = words.word() else {
         return Line::Nothing;
     };
-    match command(name, words) {
-        Some(command) => Line::Says(command),
-        None => Line::Unknown,
-    }
+    command(name, words).map_or(Line::Unknown, Line::Says)
 }
 
 // A line without its end, if it has one.
 pub fn without_end(line: &[u8]) -> &[u8]
     ensures { Ends line.now result.now }
 {
-    match line.strip_suffix(b"\n") {
-        Some(front) => front,
-        None => line,
-    }
+    line.strip_suffix(b"\n").unwrap_or(line)
 }

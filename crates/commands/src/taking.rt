@@ -25,10 +25,7 @@ fn letter(word: &str) -> Option<char>
 {
     let mut chars = word.chars();
     let letter = chars.next()?;
-    match chars.next() {
-        None => Some(letter),
-        Some(_) => None,
-    }
+    chars.next().is_none().then_some(letter)
 }
 
 impl<'a> Words<'a> {
@@ -36,19 +33,12 @@ impl<'a> Words<'a> {
     pub(crate) fn word(&mut self) -> Option<&'a str>
         ensures { MatchOption result (left self.old ≡ []) (λ w. left self.old ≡ w.now ∷ left self.new) }
     {
-        while let Some((piece, rest)) = self.rest.split_once(' ') {
-            self.rest = rest;
-            if !piece.is_empty() {
-                return Some(piece);
-            }
-        }
-        let last = self.rest;
-        self.rest = "";
-        if last.is_empty() { None } else { Some(last) }
+        let line = self.rest.trim_start_matches(' ');
+        let (word, rest) = line.split_once(' ').unwrap_or((line, ""));
+        self.rest = rest;
+        (!word.is_empty()).then_some(word)
     }
-}
 
-impl<'a> Words<'a> {
     // The next word, which is to be a number.
     pub(crate) fn number(&mut self) -> Option<u32>
         ensures { Takes number_first (left self.old) result (left self.new) }
@@ -78,9 +68,6 @@ impl<'a> Words<'a> {
     pub(crate) fn whole(&mut self, command: Command) -> Option<Command>
         ensures { result ≡ whole command (left self.old) }
     {
-        match self.word() {
-            None => Some(command),
-            Some(_) => None,
-        }
+        self.word().is_none().then_some(command)
     }
 }

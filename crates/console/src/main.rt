@@ -18,6 +18,7 @@ use letters::lettered::apply_by_letter;
 use report::refusals::Refusal;
 use report::replies::Reply;
 use report::reports::{listing, reply, verdict};
+use report::texts::REPORT_MAX;
 use shift_rule::shifts::Shift;
 use std::io::{BufRead, BufReader, Write};
 use sweep::sweeping::sweep;
@@ -68,15 +69,11 @@ fn main(rt: HostRuntime) -> anyhow::Result<()> {
         if input.read_until(b'\n', &mut line)? == 0 {
             break;
         }
-        let mut out = [0u8; 8192];
-        match answer(&mut board, without_end(&line), &mut out) {
-            Ok(n) => {
-                if n <= out.len() {
-                    rt.stdout().write_all(&out[0..n])?;
-                }
-            }
-            Err(_) => return Err(anyhow!("an answer is longer than its buffer")),
-        }
+        let mut out = [0u8; REPORT_MAX];
+        let length = answer(&mut board, without_end(&line), &mut out).map_err(|_| anyhow!(
+            "an answer is longer than its buffer"
+        ))?;
+        rt.stdout().write_all(&out[..length])?;
     }
     Ok(())
 }

@@ -6,7 +6,6 @@ mod files;
 use board::boards::Board;
 use campaign::load;
 use files::filled;
-use std::alloc::Global;
 use std::io::{BufRead, BufReader};
 
 // A board of 7 channels with one row, which every case begins with, so that what a fault leaves can be seen.
@@ -48,22 +47,17 @@ fn show_rows(rt: &HostRuntime, board: &Board) -> anyhow::Result<()> {
     Ok(())
 }
 
-// The bytes that a line writes in hexadecimal.
-fn bytes(heap: Global, line: &str) -> anyhow::Result<Vec<u8>> {
-    let mut file = Vec::new(heap);
-    for word in line.split_whitespace() {
-        file.push(u8::from_str_radix(word, 16)?)?;
-    }
-    Ok(file)
-}
-
 // Runs the cases of the input: a name, a colon and bytes in each line.
 fn run_lines(rt: &HostRuntime, board: &mut Board) -> anyhow::Result<()> {
     let heap = rt.alloc();
     for line in BufReader::new(heap, rt.stdin())?.lines(heap) {
         let line = line?;
         if let Some((name, hex)) = line.as_str().split_once(':') {
-            let file = bytes(heap, hex)?;
+            // The words after the colon are bytes in hexadecimal.
+            let file: Vec<u8> = hex
+                .split_whitespace()
+                .map(|word| -> anyhow::Result<u8> { Ok(u8::from_str_radix(word, 16)?) })
+                .try_collect(heap)?;
             if show(rt, board, name, file.as_slice())? {
                 show_rows(rt, board)?;
             }

@@ -8,17 +8,30 @@ use sheet::cuts::Cut;
 use sheet::mirrors::Mirror;
 use sheet::sheets::Sheet;
 use shift_rule::shifts::Shift;
-use std::io;
+use std::fmt::Display;
+use std::{fmt, io};
 use sweep::presenting::present;
 use time_table_rule::rule::TimeTable;
 
-// Prints an entry, or that there is none.
-fn show_entry(rt: &HostRuntime, entry: Option<Entry>) -> io::Result<()> {
-    match entry {
-        Some(e) => print!(rt;
-            " ({},{}) p {} c {}",
+// An entry: its window, its duration and its demand.
+#[derive(Clone, Copy)]
+struct Shown(Entry);
+
+impl Display for Shown {
+    fn fmt<W: fmt::Write>(&self, f: &mut fmt::Formatter<W>) -> fmt::Result {
+        let e = self.0;
+        write!(
+            f,
+            "({},{}) p {} c {}",
             e.release, e.deadline, e.duration, e.demand
-        ),
+        )
+    }
+}
+
+// Prints what is found at a place, or that there is nothing.
+fn show_found<T: Display + Drop>(rt: &HostRuntime, found: Option<T>) -> io::Result<()> {
+    match found {
+        Some(value) => print!(rt; " {value}"),
         None => rt.print(" absent"),
     }
 }
@@ -27,7 +40,7 @@ fn show_entry(rt: &HostRuntime, entry: Option<Entry>) -> io::Result<()> {
 fn show_sheet<S: Sheet>(rt: &HostRuntime, sheet: &S) -> io::Result<()> {
     print!(rt; "C {} N {}", sheet.capacity(), sheet.count())?;
     for place in 0..sheet.count().wrapping_add(1) {
-        show_entry(rt, sheet.entry(place))?;
+        show_found(rt, sheet.entry(place).map(Shown))?;
     }
     Ok(())
 }
@@ -43,20 +56,12 @@ fn show_evidence<V: Tells + Drop>(rt: &HostRuntime, evidence: Option<V>) -> io::
     }
 }
 
-// Prints an earliest start, or that there is none.
-fn show_start(rt: &HostRuntime, start: Option<u16>) -> io::Result<()> {
-    match start {
-        Some(start) => print!(rt; " {start}"),
-        None => rt.print(" absent"),
-    }
-}
-
 // Prints what a rule answers of a sheet: its letter, its evidence, and the earliest starts, one more than there are entries.
 fn show_rule<R: Rule, S: Sheet>(rt: &HostRuntime, rule: &R, sheet: &S) -> io::Result<()> {
     print!(rt; "; {}", rule.mark())?;
     show_evidence(rt, rule.evidence(sheet))?;
     for place in 0..sheet.count().wrapping_add(1) {
-        show_start(rt, rule.earliest(sheet, place))?;
+        show_found(rt, rule.earliest(sheet, place))?;
     }
     Ok(())
 }
@@ -81,10 +86,10 @@ pub(crate) fn ask(rt: &HostRuntime, board: &Board, word: &str, given: &[u32]) ->
     let shown = match (word, given) {
         ("sheet", []) => show(rt, &sheet),
         ("mirror", []) => show(rt, &Mirror::of(&sheet)),
-        ("cut", [place, number]) => show(rt, &Cut::of(&sheet, *place as usize, deadline(*number))),
-        ("cut of mirror", [place, number]) => show(
+        ("cut", &[place, number]) => show(rt, &Cut::of(&sheet, place as usize, deadline(number))),
+        ("cut of mirror", &[place, number]) => show(
             rt,
-            &Cut::of(&Mirror::of(&sheet), *place as usize, deadline(*number)),
+            &Cut::of(&Mirror::of(&sheet), place as usize, deadline(number)),
         ),
         _ => return Ok(false),
     };

@@ -11,25 +11,71 @@ use model::rows::Pair;
 use rules::evidence::Tells;
 use rules::rule::Rule;
 use shift_rule::shifts::Shift;
-use std::io;
+use std::fmt::Display;
+use std::{fmt, io};
 use sweep::applying::apply;
 use sweep::sweeping::sweep;
 use time_table_rule::rule::TimeTable;
 
-fn show_call(rt: &HostRuntime, answer: Result<(), Refusal>) -> io::Result<()> {
+// Prints what a call answers, or by which number it is refused.
+fn show_answer<T: Display + Drop>(rt: &HostRuntime, answer: Result<T, Refusal>) -> io::Result<()> {
     match answer {
-        Ok(()) => rt.println("ok"),
+        Ok(value) => println!(rt; "{value}"),
         Err(refusal) => println!(rt; "refused {}", refusal.number()),
     }
 }
 
-// Ends a line with the capacity and the present windows.
-fn show_board(rt: &HostRuntime, board: &Board) -> io::Result<()> {
-    print!(rt; ", C {}", board.capacity())?;
-    for row in board.rows() {
-        print!(rt; " ({},{})", row.present.release, row.present.deadline)?;
+fn show_call(rt: &HostRuntime, answer: Result<(), Refusal>) -> io::Result<()> {
+    show_answer(rt, answer.map(|()| "ok"))
+}
+
+// The capacity and the present windows of a board, with which a line ends.
+#[derive(Clone, Copy)]
+struct Windows<'a>(&'a Board);
+
+impl<'a> Display for Windows<'a> {
+    fn fmt<W: fmt::Write>(&self, f: &mut fmt::Formatter<W>) -> fmt::Result {
+        write!(f, ", C {}", self.0.capacity())?;
+        for row in self.0.rows() {
+            write!(f, " ({},{})", row.present.release, row.present.deadline)?;
+        }
+        Ok(())
     }
-    rt.println("")
+}
+
+// What an application did.
+#[derive(Drop)]
+struct Did<V: Tells>(Effect<V>);
+
+impl<V: Tells> Display for Did<V> {
+    fn fmt<W: fmt::Write>(&self, f: &mut fmt::Formatter<W>) -> fmt::Result {
+        match &self.0 {
+            Effect::Overfull(evidence) => {
+                let interval = evidence.interval();
+                write!(f, "overfull {} {}", interval.t1, interval.t2)
+            }
+            Effect::Squeezed(row) => write!(f, "squeezed {row}"),
+            Effect::Narrowed => write!(f, "narrowed"),
+            Effect::Quiet => write!(f, "quiet"),
+        }
+    }
+}
+
+// How a sweep ended, and its rounds.
+#[derive(Clone, Copy)]
+struct Ended(Swept);
+
+impl Display for Ended {
+    fn fmt<W: fmt::Write>(&self, f: &mut fmt::Formatter<W>) -> fmt::Result {
+        match self.0.verdict {
+            Verdict::Settled => write!(f, "settled")?,
+            Verdict::Overfull { letter, interval } => {
+                write!(f, "overfull {letter} {} {}", interval.t1, interval.t2)?
+            }
+            Verdict::Squeezed { letter, row } => write!(f, "squeezed {letter} {row}")?,
+        }
+        write!(f, " in {}", self.0.rounds)
+    }
 }
 
 // Prints what an application did, and the windows that it left.
@@ -38,32 +84,7 @@ fn show_effect<V: Tells + Drop>(
     board: &Board,
     effect: Effect<V>,
 ) -> io::Result<()> {
-    let shown = match effect {
-        Effect::Overfull(evidence) => {
-            let interval = evidence.interval();
-            print!(rt; "overfull {} {}", interval.t1, interval.t2)
-        }
-        Effect::Squeezed(row) => print!(rt; "squeezed {row}"),
-        Effect::Narrowed => rt.print("narrowed"),
-        Effect::Quiet => rt.print("quiet"),
-    };
-    shown?;
-    show_board(rt, board)
-}
-
-// Prints how a sweep ended, its rounds, and the windows that it left.
-fn show_swept(rt: &HostRuntime, board: &Board, swept: Swept) -> io::Result<()> {
-    let shown = match swept.verdict {
-        Verdict::Settled => rt.print("settled"),
-        Verdict::Overfull { letter, interval } => print!(rt;
-            "overfull {letter} {} {}",
-            interval.t1, interval.t2
-        ),
-        Verdict::Squeezed { letter, row } => print!(rt; "squeezed {letter} {row}"),
-    };
-    shown?;
-    print!(rt; " in {}", swept.rounds)?;
-    show_board(rt, board)
+    println!(rt; "{}{}", Did(effect), Windows(board))
 }
 
 fn show_rule<R: Rule>(rt: &HostRuntime, board: &mut Board, rule: &R) -> io::Result<()> {
@@ -78,13 +99,6 @@ fn show_letter(rt: &HostRuntime, board: &mut Board, letter: char) -> io::Result<
     }
 }
 
-fn show_place(rt: &HostRuntime, pair: Pair) -> io::Result<()> {
-    match place(pair) {
-        Ok(at) => println!(rt; "{at}"),
-        Err(refusal) => println!(rt; "refused {}", refusal.number()),
-    }
-}
-
 // Makes the call with numbers that a word names; says false if it names none, or if the numbers are too many or too few.
 pub(crate) fn call(
     rt: &HostRuntime,
@@ -93,48 +107,25 @@ pub(crate) fn call(
     given: &[u32],
 ) -> io::Result<bool> {
     let shown = match (word, given) {
-        ("build", [capacity]) => show_call(rt, board.build(*capacity)),
-        ("enter", [profile, bearer, release, deadline, duration, demand]) => {
-            let pair = Pair {
-                profile: *profile,
-                bearer: *bearer,
-            };
+        ("build", &[capacity]) => show_call(rt, board.build(capacity)),
+        ("enter", &[profile, bearer, release, deadline, duration, demand]) => {
             let test = Test {
-                pair,
-                release: *release,
-                deadline: *deadline,
-                duration: *duration,
-                demand: *demand,
+                pair: Pair { profile, bearer },
+                release,
+                deadline,
+                duration,
+                demand,
             };
             show_call(rt, board.enter(test))
         }
-        ("withdraw", [profile, bearer]) => show_call(
-            rt,
-            board.withdraw(Pair {
-                profile: *profile,
-                bearer: *bearer,
-            }),
-        ),
-        ("rebook", [profile, bearer, release, deadline]) => {
-            show_call(
-                rt,
-                board.rebook(
-                    Pair {
-                        profile: *profile,
-                        bearer: *bearer,
-                    },
-                    *release,
-                    *deadline,
-                ),
-            )
+        ("withdraw", &[profile, bearer]) => {
+            show_call(rt, board.withdraw(Pair { profile, bearer }))
         }
-        ("place", [profile, bearer]) => show_place(
-            rt,
-            Pair {
-                profile: *profile,
-                bearer: *bearer,
-            },
-        ),
+        ("rebook", &[profile, bearer, release, deadline]) => {
+            let pair = Pair { profile, bearer };
+            show_call(rt, board.rebook(pair, release, deadline))
+        }
+        ("place", &[profile, bearer]) => show_answer(rt, place(Pair { profile, bearer })),
         _ => return Ok(false),
     };
     shown?;
@@ -167,7 +158,7 @@ pub(crate) fn settle(rt: &HostRuntime, session: &mut Session, word: &str) -> io:
         "sweep E E E" => sweep(board, &Elastic, &Elastic, &Elastic),
         _ => return Ok(false),
     };
-    show_swept(rt, &session.board, session.swept)?;
+    println!(rt; "{}{}", Ended(session.swept), Windows(&session.board))?;
     Ok(true)
 }
 
@@ -178,7 +169,6 @@ pub(crate) fn keep(rt: &HostRuntime, session: &mut Session, word: &str) -> io::R
         "restore" => session.board.restore(&session.saved),
         _ => return Ok(false),
     }
-    rt.print("ok")?;
-    show_board(rt, &session.board)?;
+    println!(rt; "ok{}", Windows(&session.board))?;
     Ok(true)
 }

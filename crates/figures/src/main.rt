@@ -18,17 +18,16 @@ use std::io::{BufRead, BufReader, ErrorKind};
 
 // The numbers that the words of a line write in base ten.
 fn numbers(heap: Global, words: &str) -> io::Result<Vec<u32>> {
-    let mut numbers = Vec::new(heap);
-    for word in words.split_whitespace() {
-        let Ok(number) = word.parse::<u32>() else {
-            return Err(ErrorKind::InvalidData.into());
-        };
-        numbers.push(number)?;
-    }
-    Ok(numbers)
+    words
+        .split_whitespace()
+        .map(|word| word
+            .parse::<u32>()
+            .map_err(|_| io::Error::from(ErrorKind::InvalidData)))
+        .try_collect(heap)
 }
 
 // Runs one line, a word and numbers. The parts of the program know words of their own.
+// kept: each part says whether a word is its own; an enum of all that a line can ask would name each word twice, and be no plainer
 fn run_line(rt: &HostRuntime, session: &mut Session, word: &str, given: &[u32]) -> io::Result<()> {
     let board = &mut session.board;
     if call(rt, board, word, given)? || narrow(rt, board, word)? || ask(rt, board, word, given)? {

@@ -12,11 +12,10 @@ const BUFFER: usize = 256;
 
 // The bytes that numbers name.
 fn bytes(heap: Global, given: &[u32]) -> Result<Vec<u8>, AllocError> {
-    let mut file = Vec::new(heap);
-    for i in 0..given.len() {
-        file.push((given[i] % 256) as u8)?;
-    }
-    Ok(file)
+    given
+        .iter()
+        .map(|number| (*number % 256) as u8)
+        .collect(heap)
 }
 
 // Prints an answer and the whole buffer, which then has a stroke for each end of a line.
@@ -25,11 +24,10 @@ fn show_buffer(
     answer: Result<usize, Refusal>,
     buffer: &mut [u8],
 ) -> io::Result<()> {
-    let shown = match answer {
-        Ok(length) => print!(rt; "{length} "),
-        Err(short) => print!(rt; "refused {} ", short.number()),
-    };
-    shown?;
+    match answer {
+        Ok(length) => print!(rt; "{length} ")?,
+        Err(short) => print!(rt; "refused {} ", short.number())?,
+    }
     for byte in buffer.iter_mut() {
         if *byte == b'\n' {
             *byte = b'/';
@@ -40,16 +38,10 @@ fn show_buffer(
 }
 
 // Loads a file into the board, and writes what is wrong with it; a file that is loaded leaves the buffer as it was.
-fn write_fault(
-    heap: Global,
-    board: &mut Board,
-    file: &[u32],
-    buffer: &mut [u8],
-) -> Result<Result<usize, Refusal>, AllocError> {
-    let file = bytes(heap, file)?;
-    match load(board, file.as_slice()) {
-        Ok(()) => Ok(Ok(0)),
-        Err(fault) => Ok(refusal(&fault, buffer)),
+fn write_fault(board: &mut Board, file: &[u8], buffer: &mut [u8]) -> Result<usize, Refusal> {
+    match load(board, file) {
+        Ok(()) => Ok(0),
+        Err(fault) => refusal(&fault, buffer),
     }
 }
 
@@ -73,7 +65,10 @@ pub(crate) fn write(
         "report" => report(&session.board, &session.swept, out),
         "listing" => listing(&session.board, out),
         "verdict" => verdict(&session.swept, out),
-        "fault" => write_fault(rt.alloc(), &mut session.board, file, out)?,
+        "fault" => {
+            let file = bytes(rt.alloc(), file)?;
+            write_fault(&mut session.board, file.as_slice(), out)
+        }
         _ => return Ok(false),
     };
     show_buffer(rt, answer, out)?;

@@ -4,6 +4,7 @@
 use anyhow::anyhow;
 use board::boards::Board;
 use planning::plan;
+use report::texts::REPORT_MAX;
 use std::io::{Read, Write};
 
 // One byte more than the longest file of as many records as a file may have.
@@ -14,9 +15,9 @@ fn main(rt: HostRuntime) -> anyhow::Result<()> {
     let mut input = Vec::new(heap);
     rt.stdin().take(INPUT_MAX).read_to_end(&mut input)?;
     let mut board = Board::new(heap)?;
-    let mut out = [0u8; 8192];
-    match plan(&mut board, &input, &mut out) {
-        Ok(n) => Ok(rt.stdout().write_all(&out[0..n])?),
-        Err(_) => Err(anyhow!("the report is longer than its buffer")),
-    }
+    let mut out = [0u8; REPORT_MAX];
+    let length = plan(&mut board, &input, &mut out).map_err(|_| anyhow!(
+        "the report is longer than its buffer"
+    ))?;
+    Ok(rt.stdout().write_all(&out[..length])?)
 }

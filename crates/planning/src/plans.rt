@@ -39,11 +39,9 @@ pub fn plan(board: &mut Board, input: &[u8], out: &mut [u8]) -> Result<usize, Re
     ensures promise { (EveryLoadEntersTheTestsOfItsFile) × ((EveryPlanKeepsItsPromise) × (EveryFileHasOnePlan)) }
 {
     let saved = board.save();
-    match plan_and_tell(board, input, out) {
-        Ok(length) => Ok(length),
-        Err(short) => {
-            board.restore(&saved);
-            Err(short)
-        }
+    let written = plan_and_tell(board, input, out);
+    if written.is_err() {
+        board.restore(&saved);
     }
+    written
 }

@@ -1,6 +1,7 @@
 -- The lines of a report, as bytes.
 use Rattle.std.specs.Prelude.{ℕ, List, [], ◌∷◌, ◌++◌, length, codes, decimal}
 use Rattle.std.proofs.Math.Utf8.{encode}
+use Rattle.model.specs.declared.intervals.Interval.{Interval}
 use Rattle.model.specs.declared.rows.Row.{Row}
 use Rattle.board.specs.declared.answers.Verdict.{Verdict}
 use Rattle.board.specs.declared.answers.Verdict.TheVariants.{Settled, Overfull, Squeezed}
@@ -34,6 +35,14 @@ row_lines (row ∷ rows) = row_line row ++ row_lines rows
 -- A board: its first line, and a line for each row.
 abbrev pub board_lines : Bookings → List ℕ
 board_lines b = head_line b ++ row_lines b.rows
+
+-- The interval whose demand is too great, or the row whose window is too short, with the letter of the rule and the bytes after it.
+abbrev pub overfull_words : ℕ → Interval → List ℕ → List ℕ
+overfull_words letter interval after =
+    codes "OVERFULL " ++ (encode letter ++ (codes " " ++ (before_space interval.t1 ++ (decimal interval.t2 ++ after))))
+
+abbrev pub squeezed_words : ℕ → ℕ → List ℕ → List ℕ
+squeezed_words letter row after = codes "SQUEEZED " ++ (encode letter ++ (codes " " ++ (decimal row ++ after)))
 
 -- How a sweep ended.
 abbrev pub verdict_words : Verdict → List ℕ

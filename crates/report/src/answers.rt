@@ -12,20 +12,14 @@ impl Reply {
     pub fn called(answer: Result<(), Refusal>) -> Reply
         ensures { result ≡ called answer }
     {
-        match answer {
-            Ok(()) => Reply::Done,
-            Err(why) => Reply::Refused(why),
-        }
+        answer.map_or_else(Reply::Refused, |()| Reply::Done)
     }
 
     // To the question for the place of a pair.
     pub fn placed(answer: Result<u32, Refusal>) -> Reply
         ensures { result ≡ placed answer }
     {
-        match answer {
-            Ok(place) => Reply::Place(place),
-            Err(why) => Reply::Refused(why),
-        }
+        answer.map_or_else(Reply::Refused, Reply::Place)
     }
 
     // To the application of the rule of a letter.

@@ -1,113 +1,121 @@
 // The lines of a report.
-ghost use Rattle.std.specs.Prelude.{◌≡◌, ◌+◌, ◌*◌, ◌<◌, ◌≤◌, [], ◌∷◌, ◌++◌, length, decimal};
+ghost use Rattle.std.specs.Prelude.{◌≡◌, ◌+◌, ◌*◌, ◌≤◌, ◌++◌, length};
 ghost use Rattle.board.specs.Held.{bookings};
-ghost use Rattle.report.specs.Shown.{shown};
-ghost use Rattle.report.specs.Lines.{head_line, row_line, row_lines, board_lines, verdict_words, verdict_line, fault_line};
+ghost use Rattle.arrayvec.specs.ArrayString.{array_string_len};
+ghost use Rattle.report.specs.Lines.{head_line, row_line, row_lines, board_lines, verdict_words, verdict_line, report_lines, fault_line};
 
-use crate::texts::Text;
+use crate::texts::{REPORT_MAX, Text};
+use crate::writing::{Lines, figure, overfull, squeezed};
 use board::answers::{Swept, Verdict};
 use board::boards::Board;
 use campaign::faults::Fault;
 use model::rows::Row;
 
-impl Text {
-    // A number, and the byte after it.
-    pub(crate) fn figure(&mut self, n: u64, after: u8)
-        requires { self.old.len + 21 ≤ 8192 }
-        ensures text { shown self.new ≡ shown self.old ++ (decimal n ++ (after ∷ [])) }
-        ensures len { self.new.len ≤ self.old.len + 21 }
-    {
-        self.number(n);
-        self.byte(after);
-    }
+// The capacity and the number of rows.
+fn head(board: &Board, text: &mut Text)
+    requires { array_string_len text.old + 49 ≤ REPORT_MAX }
+    ensures bytes { text.new.bytes ≡ text.old.bytes ++ head_line (bookings board.now) }
+    ensures len { array_string_len text.new ≤ array_string_len text.old + 49 }
+{
+    text.push_str("C ");
+    figure(text, board.capacity(), " ");
+    text.push_str("ROWS ");
+    figure(text, board.rows().len(), "\n");
+}
 
-    // The capacity and the number of rows.
-    fn head(&mut self, board: &Board)
-        requires { self.old.len ≡ 0 }
-        ensures text { shown self.new ≡ shown self.old ++ head_line (bookings board.now) }
-        ensures len { self.new.len ≤ 49 }
-    {
-        self.word(b"C ");
-        self.figure(board.capacity() as u64, b' ');
-        self.word(b"ROWS ");
-        self.figure(board.rows().len() as u64, b'\n');
-    }
+// The pair and the present window of a row.
+impl Lines for Row {
+    ghost lines = { row_line };
 
-    // The pair and the present window of a row.
-    fn row(&mut self, row: &Row)
-        requires { self.old.len + 84 ≤ 8192 }
-        ensures text { shown self.new ≡ shown self.old ++ row_line row.now }
-        ensures len { self.new.len ≤ self.old.len + 84 }
-    {
-        self.figure(row.pair.profile as u64, b' ');
-        self.figure(row.pair.bearer as u64, b' ');
-        self.figure(row.present.release as u64, b' ');
-        self.figure(row.present.deadline as u64, b'\n');
-    }
+    ghost most = { 84 };
 
-    // The lines of some rows.
-    fn rows(&mut self, rows: &[Row])
-        requires { self.old.len + 84 * length rows.now ≤ 8192 }
-        ensures text { shown self.new ≡ shown self.old ++ row_lines rows.now }
-        ensures len { self.new.len ≤ self.old.len + 84 * length rows.now }
-    {
-        for i in 0..rows.len() {
-            self.row(&rows[i]);
+    fn write(&self, text: &mut Text) {
+        figure(text, self.pair.profile, " ");
+        figure(text, self.pair.bearer, " ");
+        figure(text, self.present.release, " ");
+        figure(text, self.present.deadline, "\n");
+    }
+}
+
+// The lines of some rows.
+fn rows(rows: &[Row], text: &mut Text)
+    requires { array_string_len text.old + 84 * length rows.now ≤ REPORT_MAX }
+    ensures bytes { text.new.bytes ≡ text.old.bytes ++ row_lines rows.now }
+    ensures len { array_string_len text.new ≤ array_string_len text.old + 84 * length rows.now }
+{
+    for row in rows {
+        row.write(text);
+    }
+}
+
+// The first line and the lines of the rows of a board.
+impl Lines for Board {
+    ghost lines = { λ b. board_lines (bookings b) };
+
+    ghost most = { 5425 };
+
+    fn write(&self, text: &mut Text) {
+        head(self, text);
+        rows(self.rows(), text);
+    }
+}
+
+// How a sweep ended.
+impl Lines for Verdict {
+    ghost lines = { verdict_words };
+
+    ghost most = { 60 };
+
+    fn write(&self, text: &mut Text) {
+        match *self {
+            Verdict::Settled => text.push_str("SETTLED "),
+            Verdict::Overfull { letter, interval } => overfull(text, letter, interval, " "),
+            Verdict::Squeezed { letter, row } => squeezed(text, letter, row, " "),
         }
     }
+}
 
-    // How a sweep ended.
-    fn words(&mut self, verdict: Verdict)
-        requires { self.old.len + 80 ≤ 8192 }
-        ensures text { shown self.new ≡ shown self.old ++ verdict_words verdict }
-        ensures len { self.new.len ≤ self.old.len + 80 }
-    {
-        match verdict {
-            Verdict::Settled => self.word(b"SETTLED "),
-            Verdict::Overfull { letter, interval } => {
-                self.word(b"OVERFULL ");
-                self.letter(letter);
-                self.word(b" ");
-                self.figure(interval.t1 as u64, b' ');
-                self.figure(interval.t2 as u64, b' ');
-            }
-            Verdict::Squeezed { letter, row } => {
-                self.word(b"SQUEEZED ");
-                self.letter(letter);
-                self.word(b" ");
-                self.figure(row as u64, b' ');
-            }
-        }
+// The line of a sweep's answer.
+impl Lines for Swept {
+    ghost lines = { verdict_line };
+
+    ghost most = { 81 };
+
+    fn write(&self, text: &mut Text) {
+        self.verdict.write(text);
+        figure(text, self.rounds, "\n");
     }
+}
 
-    // The first line and the lines of the rows of a board, at the front.
-    pub(crate) fn board(&mut self, board: &Board)
-        requires { self.old.len ≡ 0 }
-        ensures text { shown self.new ≡ shown self.old ++ board_lines (bookings board.now) }
-        ensures len { self.new.len ≤ 5425 }
-    {
-        self.head(board);
-        self.rows(board.rows());
+// A board and the answer of a sweep.
+#[derive(Clone, Copy)]
+pub(crate) struct Report<'a> {
+    pub(crate) board: &'a Board,
+    pub(crate) swept: &'a Swept,
+}
+
+impl<'a> Lines for Report<'a> {
+    ghost lines = { λ r. report_lines (bookings r.board.now) r.swept.now };
+
+    ghost most = { 5506 };
+
+    fn write(&self, text: &mut Text) {
+        self.board.write(text);
+        self.swept.write(text);
     }
+}
 
-    // The line of a sweep's answer.
-    pub(crate) fn verdict(&mut self, swept: &Swept)
-        requires { self.old.len + 101 ≤ 8192 }
-        ensures text { shown self.new ≡ shown self.old ++ verdict_line swept.now }
-    {
-        self.words(swept.verdict);
-        self.figure(swept.rounds as u64, b'\n');
-    }
+// The line of a fault.
+impl Lines for Fault {
+    ghost lines = { fault_line };
 
-    // The line of a fault.
-    pub(crate) fn fault(&mut self, fault: &Fault)
-        requires { self.old.len + 92 ≤ 8192 }
-        ensures text { shown self.new ≡ shown self.old ++ fault_line fault.now }
-    {
-        self.word(b"REFUSED ");
-        self.figure(fault.cause.number() as u64, b' ');
-        self.figure(fault.cause.layer().number() as u64, b' ');
-        self.figure(fault.record as u64, b' ');
-        self.figure(fault.byte as u64, b'\n');
+    ghost most = { 92 };
+
+    fn write(&self, text: &mut Text) {
+        text.push_str("REFUSED ");
+        figure(text, self.cause.number(), " ");
+        figure(text, self.cause.layer().number(), " ");
+        figure(text, self.record, " ");
+        figure(text, self.byte, "\n");
     }
 }

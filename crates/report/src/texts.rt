@@ -1,10 +1,8 @@
 // A text in memory of its own, long enough for every report.
-ghost use Rattle.std.specs.Prelude.{◌≤◌};
+use arrayvec::ArrayString;
 
-// The bytes of a text, of which the first `len` stand.
-#[derive(Drop)]
-pub struct Text {
-    pub(crate) bytes: [u8; 8192],
-    pub(crate) len: usize,
-    ghost inside: { len ≤ 8192 },
-}
+// The bytes that a text has room for.
+pub const REPORT_MAX: usize = 8192;
+
+// A text under work.
+pub(crate) type Text = ArrayString<REPORT_MAX>;

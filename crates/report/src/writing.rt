@@ -1,60 +1,70 @@
 // Writing at the end of a text.
-ghost use Rattle.std.specs.Prelude.{◌≡◌, ◌+◌, ◌<◌, ◌≤◌, [], ◌∷◌, ◌++◌, length, decimal};
-ghost use Rattle.std.proofs.Math.Utf8.{encode};
-ghost use Rattle.report.specs.Shown.{shown};
+ghost use Rattle.std.specs.Prelude.{◌≡◌, ℕ, ◌+◌, ◌≤◌, List, ◌++◌, length, codes, encode_utf8};
+ghost use Rattle.arrayvec.specs.ArrayString.{array_string_len};
+ghost use Rattle.report.specs.Lines.{overfull_words, squeezed_words};
 
-use crate::texts::Text;
+use crate::texts::{REPORT_MAX, Text};
+use itoa::{Buffer, Integer};
+use model::intervals::Interval;
 
-impl Text {
-    pub(crate) fn new() -> Text
-        ensures { (shown result ≡ []) × (result.len ≡ 0) }
-    {
-        Text {
-            bytes: [0; 8192],
-            len: 0,
-        }
-    }
+// What can be written at the end of a text.
+// kept: tried `impl Display` with `write!`, and the proof did not close: no clause says when a formatter fails, so after an `Err` of
+// `write!` it stays open that the buffer is shorter than the text
+pub(crate) trait Lines {
+    // The bytes of a value.
+    ghost lines: { Self → List ℕ };
 
-    pub(crate) fn byte(&mut self, b: u8)
-        requires { self.old.len < 8192 }
-        ensures text { shown self.new ≡ shown self.old ++ (b ∷ []) }
-        ensures len { self.new.len ≡ self.old.len + 1 }
-    {
-        self.bytes[self.len] = b;
-        self.len += 1;
-    }
+    // No value has more bytes.
+    ghost most: { ℕ };
 
-    pub(crate) fn word(&mut self, word: &[u8])
-        requires { self.old.len + length word.now ≤ 8192 }
-        ensures text { shown self.new ≡ shown self.old ++ word.now }
-        ensures len { self.new.len ≡ self.old.len + length word.now }
-    {
-        for i in 0..word.len() {
-            self.byte(word[i]);
-        }
-    }
+    fn write(&self, text: &mut Text)
+        requires { array_string_len text.old + most ≤ REPORT_MAX }
+        ensures bytes { text.new.bytes ≡ text.old.bytes ++ lines self.now }
+        ensures len { array_string_len text.new ≤ array_string_len text.old + most };
+}
 
-    // A number in base ten.
-    pub(crate) fn number(&mut self, n: u64)
-        requires { self.old.len + length (decimal n) ≤ 8192 }
-        ensures text { shown self.new ≡ shown self.old ++ decimal n }
-        ensures len { self.new.len ≡ self.old.len + length (decimal n) }
-    {
-        if n < 10 {
-            self.byte(48 + n as u8);
-            return;
-        }
-        self.number(n / 10);
-        self.byte(48 + (n % 10) as u8);
-    }
+// A number in base ten, and the character after it.
+pub(crate) fn figure<I: Integer>(text: &mut Text, n: I, after: &str)
+    requires one { length after.now ≡ 1 }
+    requires room { array_string_len text.old + (I.MAX_STR_LEN + 1) ≤ REPORT_MAX }
+    ensures bytes { text.new.bytes ≡ text.old.bytes ++ (I.text n ++ after.now) }
+    ensures len { array_string_len text.new ≤ array_string_len text.old + (I.MAX_STR_LEN + 1) }
+{
+    text.push_str(Buffer::new().format(n));
+    text.push_str(after);
+}
 
-    // A character in UTF-8.
-    pub(crate) fn letter(&mut self, letter: char)
-        requires { self.old.len + 4 ≤ 8192 }
-        ensures text { shown self.new ≡ shown self.old ++ encode letter }
-        ensures len { self.new.len ≤ self.old.len + 4 }
-    {
-        let mut room = [0; 4];
-        self.word(letter.encode_utf8(&mut room).as_bytes());
-    }
+// The letter of a rule, and a space.
+fn mark(text: &mut Text, letter: char)
+    requires { array_string_len text.old + 5 ≤ REPORT_MAX }
+    ensures bytes { text.new.bytes ≡ text.old.bytes ++ (encode_utf8 letter ++ codes " ") }
+    ensures len { array_string_len text.new ≤ array_string_len text.old + 5 }
+{
+    text.push(letter);
+    text.push_str(" ");
+}
+
+// The interval whose demand is too great, by the rule of a letter, and the character after it.
+pub(crate) fn overfull(text: &mut Text, letter: char, interval: Interval, after: &str)
+    requires one { length after.now ≡ 1 }
+    requires room { array_string_len text.old + 60 ≤ REPORT_MAX }
+    ensures bytes { text.new.bytes ≡ text.old.bytes ++ overfull_words letter interval after.now }
+    ensures len { array_string_len text.new ≤ array_string_len text.old + 60 }
+{
+    text.push_str("OVERFULL ");
+    mark(text, letter);
+    figure(text, interval.t1, " ");
+    figure(text, interval.t2, after);
+}
+
+// The row whose window is too short, by the rule of a letter, and the character after it.
+pub(crate) fn squeezed(text: &mut Text, letter: char, row: usize, after: &str)
+    requires one { length after.now ≡ 1 }
+    requires room { array_string_len text.old + 60 ≤ REPORT_MAX }
+    ensures bytes { text.new.bytes ≡ text.old.bytes ++ squeezed_words letter row after.now }
+    ensures len { array_string_len text.new ≤ array_string_len text.old + 60 }
+{
+    text.push_str("SQUEEZED ");
+    mark(text, letter);
+    figure(text, row, after);
 }

@@ -1,11 +1,17 @@
 -- The byte 10 at the end is cut off, or there is none.
-use Rattle.std.proofs.Common.{[], ◌∷◌, Some, None, refl, inl, inr}
-use Rattle.std.proofs.lemmas.Slice.Eq.{strip_suffix_is}
-use Rattle.commands.proofs.reading.without_end.Goals as goal
+use Rattle.std.proofs.Common.{◌≢◌, ℕ, List, [], ◌∷◌, ◌++◌, Some, None, MatchOption, Option, Bor, refl, inl, inr, ◌≡◌}
 use Rattle.std.proofs.lemmas.Bool.Decides.{Decides-eqb}
+use Rattle.std.proofs.lemmas.Slice.Eq.{strip_suffix_is}
+use Rattle.std.specs.Option.{unwrap_or}
+use Rattle.commands.specs.Commands.{Ends}
+use Rattle.commands.proofs.reading.without_end.Goals as goal
 
-pub returns-in-Some : goal.returns-in-Some
-returns-in-Some c = inl (strip_suffix_is Decides-eqb c.args.line.now (10 ∷ []) (Some c.in-Some.front) c.in-Some.ensures.cases)
+ended : (line : Bor (List ℕ)) (r : Option (Bor (List ℕ))) →
+    MatchOption r ((front : List ℕ) → line.now ≢ front ++ (10 ∷ [])) (λ x. line.now ≡ x.now ++ (10 ∷ [])) → Ends line.now (unwrap_or r line).now
+ended line (Some front) h = inl h
+ended line None h = inr (refl, h)
 
-pub returns-in-None : goal.returns-in-None
-returns-in-None c = inr (refl, strip_suffix_is Decides-eqb c.args.line.now (10 ∷ []) None c.in-None.ensures.cases)
+pub returns : goal.returns
+returns c =
+    rw c.unwrap_or.ensures
+    (ended c.args.line c.strip_suffix.result (strip_suffix_is Decides-eqb c.args.line.now (10 ∷ []) c.strip_suffix.result c.strip_suffix.ensures.cases))

@@ -1,35 +1,16 @@
--- A space parts the first word from the others.
-use Rattle.std.proofs.Common.{length, Some, None, sym, ◌∙◌, arith, eqb-true}
-use borrow.Author.Tests.{eqb-false}
+-- The spaces before a word are passed over, and the next one ends it.
+use Rattle.std.proofs.Common.{refl, arith}
 use Rattle.std.proofs.lemmas.Str.Pattern.{split_parts}
-use Rattle.commands.specs.Lines.{words_after}
-use Rattle.commands.proofs.Parting.{gap, piece, last_piece, no_piece}
+use Rattle.commands.proofs.Parting.{trimmed, no_space, fronted}
 use Rattle.commands.proofs.words.Words.word.Goals as goal
 
-pub returns-then-not-is_empty : goal.returns-then-not-is_empty
-returns-then-not-is_empty c =
-    let line = c.loop-piece.self.rest.now in
-    let f = c.in-Some.piece.now in
-    let s = c.in-Some.rest.now in
-    let parts = split_parts 32 line (Some (c.in-Some.piece, c.in-Some.rest)) c.in-Some.ensures.cases (omega arith) in
-    sym c.loop-piece.invariant ∙ piece line f s parts.0 parts.1 (eqb-false (length f) 0 (sym c.if-not-is_empty.ensures))
-
-pub loop-piece-preserved : goal.loop-piece-preserved
-loop-piece-preserved c =
-    let line = c.loop-piece.self.rest.now in
-    let f = c.in-Some.piece.now in
-    let s = c.in-Some.rest.now in
-    let parts = split_parts 32 line (Some (c.in-Some.piece, c.in-Some.rest)) c.in-Some.ensures.cases (omega arith) in
-    sym (gap line f s parts.0 (eqb-true (length f) 0 (sym c.if-not-is_empty.ensures))) ∙ c.loop-piece.invariant
-
-pub returns-then-is_empty : goal.returns-then-is_empty
-returns-then-is_empty c =
-    let line = c.loop-piece.self.rest.now in
-    sym c.loop-piece.invariant ∙ no_piece line (eqb-true (length line) 0 (sym c.if-is_empty.ensures))
-
-pub returns-else-is_empty : goal.returns-else-is_empty
-unfolding words_after
-returns-else-is_empty c =
-    let line = c.loop-piece.self.rest.now in
-    let unparted = split_parts 32 line None c.in_default.ensures.cases (omega arith) in
-    sym c.loop-piece.invariant ∙ last_piece line unparted (eqb-false (length line) 0 (sym c.if-is_empty.ensures))
+pub returns : goal.returns
+returns c =
+    let line = c.trim_start_matches-line.result in
+    let cut = c.trim_start_matches-line.ensures.matches in
+    let parts = split_parts 32 line.now c.split_once.result c.split_once.ensures.cases (omega arith) in
+    let empty = rw c.unwrap_or.ensures at c.is_empty.ensures in
+    rw c.then_some.ensures
+    (rw c.unwrap_or.ensures
+    (fronted c.args.self.now.rest.now line _ c.split_once.result c.is_empty.result refl
+    (trimmed c.args.self.now.rest.now line.now cut.0.0 cut.0.1) (λ rest. no_space line.now rest cut.1) parts empty))
