@@ -1,4 +1,4 @@
 mod Arranging
-mod Inserting
+mod Ordering
 mod Positions
 mod Tried

@@ -3,14 +3,14 @@ use Rattle.std.proofs.Common.{◌≡◌, ℕ, ◌+◌, ◌-◌, ◌*◌, ◌<◌
 use Rattle.std.proofs.lemmas.Bool.{cases_lt, cases_eq}
 use Rattle.std.proofs.lemmas.Bool.Decides.{nat_tests}
 use Rattle.model.specs.declared.entries.Entry.{Entry}
-use Rattle.model.specs.Sheets.{Sheet, count, entry}
+use Rattle.model.specs.Sheets.{Sheet, count, entry, rows_max}
 use Rattle.model.specs.Energy.{work_inside, work_in}
 use Rattle.model.proofs.Sums.{total_none, total_more, total_up}
 use Rattle.model.proofs.Filling.{fill_more}
 use Rattle.elastic.specs.Pushes.{filled, Fullest}
 use Rattle.elastic_rule.specs.Orders.{Rising}
 use Rattle.elastic_rule.specs.Levels.{Levels, Levelled, Highest}
-use Rattle.elastic_rule.proofs.Inserting.{total_from}
+use Rattle.elastic_rule.proofs.Ordering.{total_from}
 
 early : (e : Entry) (t1 t2 : ℕ) → e.release < t1 → work_inside t1 t2 e ≡ 0
 early e t1 t2 l = grind (arith, nat_tests)
@@ -37,7 +37,7 @@ highest_more levels p best top is e =
 
 module _ (s : Sheet) (t2 : ℕ) (rising : Rising s.entries) where
   -- ---- levels
-  pub levelled_none : (levels : List ℕ) (work : ℕ) → length levels ≡ 64 → work ≡ work_in s 0 t2 → Levelled s t2 levels 0 0 work work
+  pub levelled_none : (levels : List ℕ) (work : ℕ) → length levels ≡ rows_max → work ≡ work_in s 0 t2 → Levelled s t2 levels 0 0 work work
   levelled_none levels work long e =
       record {
         long = long;
@@ -77,7 +77,7 @@ module _ (s : Sheet) (t2 : ℕ) (rising : Rising s.entries) where
         let h : ℕ → ℕ = λ q. work_inside 0 t2 (entry s q) in
         omega (arith, is.others, total_more h p, total_up h (p + 1) (count s) (omega arith))
 
-    pub levelled_more : (v now left : ℕ) → count s ≤ 64 → now ≡ work_in s (entry s p).release t2 → v ≡ s.capacity * (entry s p).release + now →
+    pub levelled_more : (v now left : ℕ) → count s ≤ rows_max → now ≡ work_in s (entry s p).release t2 → v ≡ s.capacity * (entry s p).release + now →
         left ≡ rest - work_inside 0 t2 (entry s p) → Levelled s t2 (set levels p v) (p + 1) (entry s p).release now left
     levelled_more v now left few e1 e2 e3 =
         record {

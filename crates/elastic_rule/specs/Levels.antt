@@ -1,7 +1,7 @@
 -- What is filled up to a deadline, at the place of each entry.
 use Rattle.std.specs.Prelude.{◌≡◌, ℕ, ◌+◌, ◌<◌, ◌≤◌, ◌⊎◌, List, length, slice_index}
 use Rattle.model.specs.Total.{total}
-use Rattle.model.specs.Sheets.{Sheet, count, entry}
+use Rattle.model.specs.Sheets.{Sheet, count, entry, rows_max}
 use Rattle.model.specs.Energy.{work_inside, work_in}
 use Rattle.elastic.specs.Pushes.{filled}
 
@@ -11,7 +11,7 @@ Levels s t2 n levels = (k : ℕ) → k < n → slice_index levels k ≡ filled s
 
 -- The levels of the first p entries stand; `inside` is the work from the last of their releases on, and `rest` the work of the other entries.
 pub record Levelled (s : Sheet) (t2 : ℕ) (levels : List ℕ) (p release inside rest : ℕ) : Type 0 where
-  pub long : length levels ≡ 64
+  pub long : length levels ≡ rows_max
   pub stand : Levels s t2 p levels
   pub last : inside ≡ work_in s release t2
   pub others : rest + total p (λ q. work_inside 0 t2 (entry s q)) ≡ work_in s 0 t2

@@ -1,54 +1,51 @@
 // What is filled up to a deadline.
-ghost use Rattle.std.specs.Prelude.{◌≡◌, ◌+◌, length};
-ghost use Rattle.model.specs.Sheets.{Sound, capacity_max};
+ghost use Rattle.std.specs.Prelude.{◌≡◌};
+ghost use Rattle.model.specs.Sheets.{count};
 ghost use Rattle.model.specs.Energy.{work_inside, work_in};
-ghost use Rattle.elastic_rule.specs.Orders.{Rising};
-ghost use Rattle.sheet.specs.Listed.{sheet, Bounded};
+ghost use Rattle.sheet.specs.Listed.{meant};
 ghost use Rattle.elastic_rule.specs.Levels.{Levels};
 
+use crate::queues::Queue;
 use model::entries::Entry;
+use model::limits::ROWS_MAX;
 
 // The work of an entry that ends by t2, else 0.
-fn work_by(e: Entry, t2: u16) -> u32
-    ensures { result ≡ work_inside 0 t2 e }
+fn work_by(e: &Entry, t2: u16) -> u32
+    ensures { result ≡ work_inside 0 t2 e.now }
 {
     if e.deadline <= t2 {
-        e.duration as u32 * e.demand as u32
+        u32::from(e.duration) * u32::from(e.demand)
     } else {
         0
     }
 }
 
-// The work of all entries that end by t2.
-fn all_work_by(entries: &[Entry], t2: u16) -> u32
-    requires { Bounded entries.now }
-    ensures { result ≡ work_in (sheet capacity_max entries.now) 0 t2 }
-{
-    let mut sum = 0;
-    for e in entries {
-        sum += work_by(*e, t2);
+impl<'a> Queue<'a> {
+    // The work of all entries that end by t2.
+    fn all_work_by(&self, t2: u16) -> u32
+        ensures { result ≡ work_in (meant self.now.sheet) 0 t2 }
+    {
+        self.sheet.entries.iter().map(|e| work_by(e, t2)).sum()
     }
-    sum
-}
 
-// What is filled up to t2 from the release of each entry, at its place. Through entries in order of rising release, what is inside
-// from a release on is what is left when the first entry of that release comes.
-pub(crate) fn levels(capacity: u16, entries: &[Entry], t2: u16) -> [u32; 64]
-    requires { (Sound (sheet capacity entries.now)) × (Rising entries.now) }
-    ensures { Levels (sheet capacity entries.now) t2 (length entries.now) result }
-{
-    let mut levels = [0; 64];
-    let mut rest = all_work_by(entries, t2);
-    let mut release = 0;
-    let mut inside = rest;
-    for p in 0..entries.len() {
-        let e = entries[p];
-        if e.release > release {
-            inside = rest;
+    // What is filled up to t2 from the release of each entry, at its place. As releases rise, what is inside from a release on is what
+    // is left when the first entry of that release comes.
+    pub(crate) fn levels(&self, t2: u16) -> [u32; ROWS_MAX]
+        ensures { Levels (meant self.now.sheet) t2 (count (meant self.now.sheet)) result }
+    {
+        let capacity = u32::from(self.sheet.capacity);
+        let mut levels = [0; ROWS_MAX];
+        let mut rest = self.all_work_by(t2);
+        let mut release = 0;
+        let mut inside = rest;
+        for (place, e) in self.sheet.entries.iter().enumerate() {
+            if e.release > release {
+                inside = rest;
+            }
+            levels[place] = capacity * u32::from(e.release) + inside;
+            release = e.release;
+            rest -= work_by(e, t2);
         }
-        levels[p] = capacity as u32 * e.release as u32 + inside;
-        release = e.release;
-        rest -= work_by(e, t2);
+        levels
     }
-    levels
 }

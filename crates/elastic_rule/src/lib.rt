@@ -8,5 +8,6 @@ mod orders;
 mod overfull;
 mod passes;
 mod pushes;
+mod queues;
 pub mod rule;
 mod starts;

@@ -1,45 +1,40 @@
 // How far full intervals push the entries.
-ghost use Rattle.std.specs.Prelude.{◌≡◌, ℕ, ◌+◌, ◌<◌, ◌≤◌, length, slice_index, slice_index_or};
-ghost use Rattle.model.specs.Sheets.{Sound, blank};
+ghost use Rattle.std.specs.Prelude.{◌≡◌, ℕ, ◌+◌, ◌<◌, slice_index};
+ghost use Rattle.model.specs.Sheets.{count, entry};
 ghost use Rattle.elastic.specs.Pushes.{Fullest, PushedBy};
-ghost use Rattle.sheet.specs.Listed.{sheet};
+ghost use Rattle.sheet.specs.Listed.{meant};
 
-use model::entries::Entry;
+use crate::queues::Queue;
+use model::limits::ROWS_MAX;
 
-// The end of the entry at place k once the deadline at place j pushes it too. Where what is filled up to that deadline leaves
-// no room for the work of the entry, the two take all slots up to the end.
-pub(crate) fn pushed(
-    capacity: u16,
-    entries: &[Entry],
-    k: usize,
-    j: usize,
-    level: u32,
-    end: u32,
-) -> u32
-    requires { (Sound (sheet capacity entries.now)) × ((k < length entries.now) × ((j < length entries.now) × ((Fullest (sheet capacity entries.now) (slice_index_or entries.now k blank).release (slice_index_or entries.now j blank).deadline (length entries.now) level) × (PushedBy (sheet capacity entries.now) k j end)))) }
-    ensures { PushedBy (sheet capacity entries.now) k (j + 1) result }
-{
-    let e = entries[k];
-    let deadline = entries[j].deadline;
-    if deadline >= e.deadline {
-        return end;
+impl<'a> Queue<'a> {
+    // The end of the entry at place k once the deadline at place j pushes it too. Where what is filled up to that deadline leaves
+    // no room for the work of the entry, the two take all slots up to the end.
+    pub(crate) fn pushed(&self, k: usize, j: usize, level: u32, end: u32) -> u32
+        requires { (k < count (meant self.now.sheet)) × ((j < count (meant self.now.sheet)) × ((Fullest (meant self.now.sheet) (entry (meant self.now.sheet) k).release (entry (meant self.now.sheet) j).deadline (count (meant self.now.sheet)) level) × (PushedBy (meant self.now.sheet) k j end))) }
+        ensures { PushedBy (meant self.now.sheet) k (j + 1) result }
+    {
+        let e = self.sheet.entries[k];
+        let deadline = self.sheet.entries[j].deadline;
+        if deadline >= e.deadline {
+            return end;
+        }
+        let capacity = u32::from(self.sheet.capacity);
+        let total = level + u32::from(e.duration) * u32::from(e.demand);
+        if total <= capacity * u32::from(deadline) {
+            return end;
+        }
+        end.max(total.div_ceil(capacity))
     }
-    let total = level + e.duration as u32 * e.demand as u32;
-    if total <= capacity as u32 * deadline as u32 {
-        return end;
-    }
-    let last = (total + (capacity as u32 - 1)) / capacity as u32;
-    end.max(last)
-}
 
-// The end of each entry that nothing pushes, at its place.
-pub(crate) fn soonest_ends(entries: &[Entry]) -> [u32; 64]
-    requires { length entries.now ≤ 64 }
-    ensures { (k : ℕ) → k < length entries.now → slice_index result k ≡ (slice_index_or entries.now k blank).release + (slice_index_or entries.now k blank).duration }
-{
-    let mut ends = [0; 64];
-    for k in 0..entries.len() {
-        ends[k] = entries[k].release as u32 + entries[k].duration as u32;
+    // The end of each entry that nothing pushes, at its place.
+    pub(crate) fn soonest_ends(&self) -> [u32; ROWS_MAX]
+        ensures { (k : ℕ) → k < count (meant self.now.sheet) → slice_index result k ≡ (entry (meant self.now.sheet) k).release + (entry (meant self.now.sheet) k).duration }
+    {
+        let mut ends = [0; ROWS_MAX];
+        for (place, e) in self.sheet.entries.iter().enumerate() {
+            ends[place] = u32::from(e.release) + u32::from(e.duration);
+        }
+        ends
     }
-    ends
 }

@@ -1,10 +1,12 @@
 // E as a rule.
+ghost use Rattle.std.specs.Prelude.{refl};
 ghost use Rattle.elastic.specs.Meaning.{meaning_E, evidence_E};
 ghost use Rattle.elastic.proofs.IsE.{is_E};
 ghost use Rattle.elastic.proofs.Law.{lawful_E};
 
-use crate::answers::{earliest_starts, first_overfull, judged};
+use crate::answers::{earliest_starts, judged};
 use model::intervals::Interval;
+use model::limits::ROWS_MAX;
 use rules::rule::Rule;
 use sheet::listing::list;
 use sheet::sheets::Sheet;
@@ -18,9 +20,13 @@ impl Rule for Elastic {
 
     const LETTER: char = 'E';
 
+    ghost LETTER = { 69 };
+
     ghost means = { λ _. meaning_E };
 
     ghost shows = { λ _ s. evidence_E s };
+
+    ghost lettered = { λ _. refl };
 
     ghost proper = { λ _. (lawful_E meaning_E is_E).proper };
 
@@ -28,32 +34,19 @@ impl Rule for Elastic {
 
     ghost bounds = { λ _. (lawful_E meaning_E is_E).never_before };
 
-    fn mark(&self) -> char {
-        Self::LETTER
-    }
-
     fn evidence<S: Sheet>(&self, sheet: &S) -> Option<Interval> {
-        let list = list(sheet);
-        first_overfull(sheet.capacity(), list.entries())
+        self.judge(sheet).err()
     }
 
     fn earliest<S: Sheet>(&self, sheet: &S, place: usize) -> Option<u16> {
-        let list = list(sheet);
-        let entries = list.entries();
-        if place < entries.len() {
-            Some(earliest_starts(sheet.capacity(), entries)[place])
-        } else {
-            None
-        }
+        (place < sheet.count()).then(|| self.earliest_all(sheet)[place])
     }
 
-    fn earliest_all<S: Sheet>(&self, sheet: &S) -> [u16; 64] {
-        let list = list(sheet);
-        earliest_starts(sheet.capacity(), list.entries())
+    fn earliest_all<S: Sheet>(&self, sheet: &S) -> [u16; ROWS_MAX] {
+        earliest_starts(list(sheet).lend())
     }
 
-    fn judge<S: Sheet>(&self, sheet: &S) -> Result<[u16; 64], Interval> {
-        let list = list(sheet);
-        judged(sheet.capacity(), list.entries())
+    fn judge<S: Sheet>(&self, sheet: &S) -> Result<[u16; ROWS_MAX], Interval> {
+        judged(list(sheet).lend())
     }
 }

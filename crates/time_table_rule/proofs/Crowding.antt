@@ -9,7 +9,7 @@ use Rattle.rules.specs.declared.slots.Slot.{Slot}
 use Rattle.time_table_rule.specs.Lines.{UsageLine, FirstAbove}
 use Rattle.time_table_rule.specs.Shown.{told}
 
-pub named : (s : Sheet) (line : List ℕ) (o : Option Slot) → UsageLine s.entries line → FirstAbove s.capacity line o → Named (Crowded s) (option_map told o)
+pub named : (s : Sheet) (line : List ℕ) (o : Option Slot) → UsageLine s line → FirstAbove s.capacity line o → Named (Crowded s) (option_map told o)
 named s line (Some f) is (above, before) = (
   record { inside = f.inside; one = refl; above = omega (arith, is.each f.at f.inside) },
   λ t1 t2 c.

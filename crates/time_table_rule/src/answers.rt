@@ -1,46 +1,42 @@
 // The answers of T, each from one usage line and its highest usage.
-ghost use Rattle.std.specs.Prelude.{◌≡◌, ℕ, ◌<◌, length, Some as Found, slice_index};
+ghost use Rattle.std.specs.Prelude.{◌≡◌, ℕ, ◌<◌, Some as Found, slice_index};
 ghost use Rattle.std.specs.Option.{option_map};
-ghost use Rattle.model.specs.Sheets.{Sound};
+ghost use Rattle.model.specs.Sheets.{count};
 ghost use Rattle.model.specs.Rules.{Named};
 ghost use Rattle.model.specs.TimeTable.{Crowded};
 ghost use Rattle.timetable.specs.Meaning.{meaning_T};
-ghost use Rattle.sheet.specs.Listed.{sheet};
+ghost use Rattle.sheet.specs.Listed.{meant};
 ghost use Rattle.time_table_rule.specs.Shown.{told, Judged};
 
-use crate::crowded::first_crowded;
-use crate::starts::starts;
-use crate::usage::{peak, usage_line};
-use model::entries::Entry;
+use crate::usage::{Usage, usage_line};
+use model::limits::ROWS_MAX;
 use rules::slots::Slot;
+use sheet::lists::Listed;
 
 // The first slot whose usage is above the capacity.
-pub(crate) fn crowded_slot(capacity: u16, entries: &[Entry]) -> Option<Slot>
-    requires { Sound (sheet capacity entries.now) }
-    ensures { Named (Crowded (sheet capacity entries.now)) (option_map told result) }
+pub(crate) fn crowded_slot(sheet: Listed<'_>) -> Option<Slot>
+    ensures { Named (Crowded (meant sheet.entry)) (option_map told result) }
 {
-    let line = usage_line(entries);
-    first_crowded(capacity, &line, peak(&line))
+    let line = usage_line(sheet);
+    Usage::of(sheet, &line).first_crowded()
 }
 
 // The earliest start of each entry, at its place.
-pub(crate) fn earliest_starts(capacity: u16, entries: &[Entry]) -> [u16; 64]
-    requires { Sound (sheet capacity entries.now) }
-    ensures { (k : ℕ) → k < length entries.now → meaning_T.earliest (sheet capacity entries.now) k ≡ Found (slice_index result k) }
+pub(crate) fn earliest_starts(sheet: Listed<'_>) -> [u16; ROWS_MAX]
+    ensures { (k : ℕ) → k < count (meant sheet.entry) → meaning_T.earliest (meant sheet.entry) k ≡ Found (slice_index result k) }
 {
-    let line = usage_line(entries);
-    starts(capacity, entries, &line, peak(&line))
+    let line = usage_line(sheet);
+    Usage::of(sheet, &line).starts()
 }
 
 // The first crowded slot or, where there is none, the earliest starts of all entries.
-pub(crate) fn judged(capacity: u16, entries: &[Entry]) -> Result<[u16; 64], Slot>
-    requires { Sound (sheet capacity entries.now) }
-    ensures { Judged (sheet capacity entries.now) result }
+pub(crate) fn judged(sheet: Listed<'_>) -> Result<[u16; ROWS_MAX], Slot>
+    ensures { Judged (meant sheet.entry) result }
 {
-    let line = usage_line(entries);
-    let peak = peak(&line);
-    match first_crowded(capacity, &line, peak) {
+    let line = usage_line(sheet);
+    let usage = Usage::of(sheet, &line);
+    match usage.first_crowded() {
         Some(slot) => Err(slot),
-        None => Ok(starts(capacity, entries, &line, peak)),
+        None => Ok(usage.starts()),
     }
 }

@@ -1,32 +1,33 @@
 // The first crowded slot.
-ghost use Rattle.std.specs.Prelude.{◌≡◌, length};
-ghost use Rattle.model.specs.Sheets.{horizon};
-ghost use Rattle.time_table_rule.specs.Lines.{Peak, FirstAbove};
+ghost use Rattle.std.specs.Option.{option_map};
+ghost use Rattle.model.specs.Rules.{Named};
+ghost use Rattle.model.specs.TimeTable.{Crowded};
+ghost use Rattle.sheet.specs.Listed.{meant};
+ghost use Rattle.time_table_rule.specs.Lines.{FirstAbove};
+ghost use Rattle.time_table_rule.specs.Shown.{told};
 
-use model::limits::SLOTS;
+use crate::usage::Usage;
 use rules::slots::Slot;
 
-// The first slot of a line whose usage is above the capacity.
-fn first_above(capacity: u16, line: &[u32]) -> Option<Slot>
-    requires { length line.now ≡ horizon }
-    ensures { FirstAbove capacity line.now result }
-{
-    for t in 0..SLOTS {
-        if line[t as usize] > capacity as u32 {
-            return Some(Slot { at: t });
-        }
+impl<'a> Usage<'a> {
+    // The first slot whose usage is above the capacity.
+    fn first_above(&self) -> Option<Slot>
+        ensures { FirstAbove self.now.sheet.capacity self.now.line.now result }
+    {
+        let capacity = u32::from(self.sheet.capacity);
+        let t = self.line.iter().position(|usage| *usage > capacity)?;
+        // a slot's number is below 4,032, so the cast loses nothing, and try_from would add a branch that is never taken
+        Some(Slot { at: t as u16 })
     }
-    None
-}
 
-// The same where the highest usage is known: where it is not above the capacity, there is nothing to look for.
-pub(crate) fn first_crowded(capacity: u16, line: &[u32], peak: u32) -> Option<Slot>
-    requires { (length line.now ≡ horizon) × (Peak line.now (length line.now) peak) }
-    ensures { FirstAbove capacity line.now result }
-{
-    if peak > capacity as u32 {
-        first_above(capacity, line)
-    } else {
-        None
+    // The same where the highest usage may say it: where that is not above the capacity, there is nothing to look for.
+    pub(crate) fn first_crowded(&self) -> Option<Slot>
+        ensures { Named (Crowded (meant self.now.sheet)) (option_map told result) }
+    {
+        if self.peak > u32::from(self.sheet.capacity) {
+            self.first_above()
+        } else {
+            None
+        }
     }
 }

@@ -1,9 +1,11 @@
 // T as a rule.
+ghost use Rattle.std.specs.Prelude.{refl};
 ghost use Rattle.timetable.specs.Meaning.{meaning_T};
 ghost use Rattle.timetable.proofs.RuleT.{is_T, lawful_T};
 ghost use Rattle.time_table_rule.specs.Shown.{shown};
 
 use crate::answers::{crowded_slot, earliest_starts, judged};
+use model::limits::ROWS_MAX;
 use rules::rule::Rule;
 use rules::slots::Slot;
 use sheet::listing::list;
@@ -18,9 +20,13 @@ impl Rule for TimeTable {
 
     const LETTER: char = 'T';
 
+    ghost LETTER = { 84 };
+
     ghost means = { λ _. meaning_T };
 
     ghost shows = { λ _ s. shown (meaning_T.evidence s) };
+
+    ghost lettered = { λ _. refl };
 
     ghost proper = { λ _. (lawful_T meaning_T is_T).proper };
 
@@ -28,32 +34,19 @@ impl Rule for TimeTable {
 
     ghost bounds = { λ _. (lawful_T meaning_T is_T).never_before };
 
-    fn mark(&self) -> char {
-        Self::LETTER
-    }
-
     fn evidence<S: Sheet>(&self, sheet: &S) -> Option<Slot> {
-        let list = list(sheet);
-        crowded_slot(sheet.capacity(), list.entries())
+        crowded_slot(list(sheet).lend())
     }
 
     fn earliest<S: Sheet>(&self, sheet: &S, place: usize) -> Option<u16> {
-        let list = list(sheet);
-        let entries = list.entries();
-        if place < entries.len() {
-            Some(earliest_starts(sheet.capacity(), entries)[place])
-        } else {
-            None
-        }
+        (place < sheet.count()).then(|| self.earliest_all(sheet)[place])
     }
 
-    fn earliest_all<S: Sheet>(&self, sheet: &S) -> [u16; 64] {
-        let list = list(sheet);
-        earliest_starts(sheet.capacity(), list.entries())
+    fn earliest_all<S: Sheet>(&self, sheet: &S) -> [u16; ROWS_MAX] {
+        earliest_starts(list(sheet).lend())
     }
 
-    fn judge<S: Sheet>(&self, sheet: &S) -> Result<[u16; 64], Slot> {
-        let list = list(sheet);
-        judged(sheet.capacity(), list.entries())
+    fn judge<S: Sheet>(&self, sheet: &S) -> Result<[u16; ROWS_MAX], Slot> {
+        judged(list(sheet).lend())
     }
 }

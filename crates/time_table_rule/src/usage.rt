@@ -1,43 +1,62 @@
-// The usage of every slot.
+// The usage of every slot of a sheet.
 ghost use Rattle.std.specs.Prelude.{◌≡◌, ℕ, ◌+◌, ◌<◌, ◌≤◌, ◌&&◌, length, if◌then◌else◌, nat_le, nat_lt, slice_index};
-ghost use Rattle.sheet.specs.Listed.{Bounded};
-ghost use Rattle.time_table_rule.specs.Lines.{UsageLine, Peak};
+ghost use Rattle.sheet.specs.Listed.{meant};
+ghost use Rattle.time_table_rule.specs.Lines.{UsageLine, Peak, NoneAbove};
 
-use model::entries::Entry;
+use sheet::lists::Listed;
 
-// Adds `by` in the slots from `from` to before `to`.
+// A sheet, the usage of each of its slots by fixed parts, and a number that no usage is above.
+#[derive(Clone, Copy)]
+pub(crate) struct Usage<'a> {
+    pub(crate) sheet: Listed<'a>,
+    pub(crate) line: &'a [u32],
+    pub(crate) peak: u32,
+    ghost used: { UsageLine (meant sheet) line.now },
+    ghost highest: { NoneAbove peak line.now },
+}
+
+impl<'a> Usage<'a> {
+    // A sheet with a line of its usages, and the highest of them.
+    pub(crate) fn of(sheet: Listed<'a>, line: &'a [u32]) -> Self
+        requires { UsageLine (meant sheet) line.now }
+        ensures { (meant result.sheet ≡ meant sheet.entry) × (Peak line.now (length line.now) result.peak) }
+    {
+        Usage {
+            sheet,
+            line,
+            peak: peak(line),
+        }
+    }
+}
+
+// Adds `by` in the slots from `from` to before `to`: in none where `to` comes first, as with an entry that has no fixed part.
 fn raise(line: &mut [u32], from: usize, to: usize, by: u32)
-    requires { (to ≤ length line.old) × (((t : ℕ) → t < length line.old → slice_index line.old t + by < 4294967296)) }
+    requires { (to ≤ length line.old) × ((t : ℕ) → t < length line.old → slice_index line.old t + by < 4294967296) }
     ensures { (t : ℕ) → t < length line.old → slice_index line.new t ≡ slice_index line.old t + (if nat_le from t && nat_lt t to then by else 0) }
 {
-    for t in from..to {
-        line[t] += by;
+    if from < to {
+        for usage in &mut line[from..to] {
+            *usage += by;
+        }
     }
 }
 
 // The usage of every slot by the fixed parts of the entries.
-pub(crate) fn usage_line(entries: &[Entry]) -> [u32; 4032]
-    requires { Bounded entries.now }
-    ensures { UsageLine entries.now result }
+pub(crate) fn usage_line(sheet: Listed<'_>) -> [u32; 4032]
+    ensures { UsageLine (meant sheet.entry) result }
 {
-    let mut line = [0u32; 4032];
-    for e in entries {
-        let from = (e.deadline - e.duration) as usize;
-        let to = (e.release + e.duration) as usize;
-        raise(&mut line, from, to, e.demand as u32);
+    let mut line = [0; 4032];
+    for e in sheet.entries {
+        let from = usize::from(e.deadline - e.duration);
+        let to = usize::from(e.release + e.duration);
+        raise(&mut line, from, to, u32::from(e.demand));
     }
     line
 }
 
 // The highest usage of a line.
-pub(crate) fn peak(line: &[u32]) -> u32
+fn peak(line: &[u32]) -> u32
     ensures { Peak line.now (length line.now) result }
 {
-    let mut peak = 0;
-    for i in 0..line.len() {
-        if line[i] > peak {
-            peak = line[i];
-        }
-    }
-    peak
+    line.iter().copied().max().unwrap_or(0)
 }

@@ -1,5 +1,5 @@
 -- What a pass over the entries in order of release has found is true of the entries.
-use Rattle.std.proofs.Common.{◌≡◌, ℕ, ◌-◌, ◌<◌, ◌≤◌, List, length, get_or, take, Some, None, sym, ap, ◌∙◌, subst, arith}
+use Rattle.std.proofs.Common.{◌≡◌, ℕ, ◌-◌, ◌<◌, ◌≤◌, List, length, get_or, Some, None, sym, ap, ◌∙◌, subst, arith}
 use Rattle.model.specs.declared.entries.Entry.{Entry}
 use Rattle.model.specs.Sheets.{Sheet, Sound, count, entry, horizon}
 use Rattle.model.specs.Energy.{Overfull, NowhereOverfull}
@@ -7,12 +7,12 @@ use Rattle.model.specs.Rules.{Named}
 use Rattle.elastic.specs.Meaning.{meaning_E}
 use Rattle.elastic.specs.Pushes.{PushedBy}
 use Rattle.elastic.proofs.Pushed.{earliest_pushed, pushed_in_time}
-use Rattle.sheet.specs.Listed.{sheet}
+use Rattle.sheet.specs.Entries.{sheet}
 use Rattle.elastic_rule.specs.declared.passes.Pass.{Pass}
 use Rattle.elastic_rule.specs.Orders.{ByRelease, Arranged}
 use Rattle.elastic_rule.specs.Passes.{Passed}
-use Rattle.elastic_rule.proofs.Arranging.{arranged_sound, arranged_rising, same_overfull, same_pushed}
-use Rattle.elastic_rule.proofs.Inserting.{somewhere}
+use Rattle.elastic_rule.proofs.Arranging.{same_overfull, same_pushed}
+use Rattle.elastic_rule.proofs.Ordering.{somewhere}
 use Rattle.elastic_rule.proofs.Tried.{tried_all}
 use Rattle.elastic_rule.proofs.answers.judged.Goals as goal
 
@@ -46,48 +46,41 @@ module _ (capacity : ℕ) (entries : List Entry) (order : List ℕ) (rows : List
         let here = earliest_pushed s (get_or order q 0) (get_or found.ends q 0) sound (sorted.places.below q b) nowhere (pushed q b) in
         subst (λ (i : ℕ). meaning_E.earliest s i ≡ Some (get_or starts i 0)) e (here ∙ ap Some (sym (each q b)))
 
--- a range from 0 is the front
-front : (entries : List Entry) (order : List ℕ) (rows : List Entry) → Arranged entries order (take (length entries) rows) →
-    Arranged entries order (take (length entries - 0) rows)
-front entries order rows arranged =
-    let same : length entries ≡ length entries - 0 = omega arith in subst (λ (n : ℕ). Arranged entries order (take n rows)) same arranged
-
-pub whole_pass-found-requires : goal.whole_pass-found-requires
-whole_pass-found-requires c =
-    let es = c.args.entries.now in
-    let order = c.by_release-order.result in
-    let rows = take (length es - 0) c.arranged-rows.result in
-    let sorted = c.by_release-order.ensures.sorted in
-    let arranged = front es order c.arranged-rows.result c.arranged-rows.ensures in
-    (arranged_rising c.args.capacity es order rows sorted arranged, arranged_sound c.args.capacity es order rows sorted arranged c.requires)
+-- the entries that were passed are those of the sheet, arranged
+lent : (entries : List Entry) (order order' : List ℕ) (rows rows' : List Entry) → order' ≡ order → rows' ≡ rows → Arranged entries order' rows →
+    Arranged entries order rows'
+lent entries order order' rows rows' e1 e2 arranged = rw e2 (rw e1 at arranged)
 
 pub before-requires : goal.before-requires
 before-requires c =
-    let es = c.args.entries.now in
-    let order = c.by_release-order.result in
-    let rows = take (length es - 0) c.arranged-rows.result in
-    let arranged = front es order c.arranged-rows.result c.arranged-rows.ensures in
-    let inner = inside c.args.capacity es order rows c.by_release-order.ensures.sorted arranged c.whole_pass-found.result c.whole_pass-found.ensures c.requires c.in-None.is in
-    (c.requires.few, (c.by_release-order.ensures, (c.whole_pass-found.ensures.places, inner)))
+    let es = c.args.sheet.entries.now in
+    let order = c.by_release-order.result.items in
+    let rows = c.as_slice-2.result.now in
+    let arranged : Arranged es order rows = lent es order _ _ rows c.as_slice.ensures.value c.as_slice-2.ensures.value c.arranged-rows.ensures in
+    let inner =
+    inside c.args.sheet.capacity es order rows c.by_release-order.ensures.sorted arranged
+    c.whole_pass-found.result c.whole_pass-found.ensures c.args.sheet.sound c.in-None.is in
+    rw c.as_slice-in-None.ensures.value (c.by_release-order.ensures, (c.whole_pass-found.ensures.places, inner))
 
 pub returns-in-Some : goal.returns-in-Some
 returns-in-Some c =
-    let es = c.args.entries.now in
-    let order = c.by_release-order.result in
-    let rows = take (length es - 0) c.arranged-rows.result in
-    let arranged = front es order c.arranged-rows.result c.arranged-rows.ensures in
-    subst (Named (Overfull (sheet c.args.capacity es))) c.in-Some.is
-    (named c.args.capacity es order rows c.by_release-order.ensures.sorted arranged c.whole_pass-found.result c.whole_pass-found.ensures)
+    let es = c.args.sheet.entries.now in
+    let order = c.by_release-order.result.items in
+    let rows = c.as_slice-2.result.now in
+    let arranged : Arranged es order rows = lent es order _ _ rows c.as_slice.ensures.value c.as_slice-2.ensures.value c.arranged-rows.ensures in
+    subst (Named (Overfull (sheet c.args.sheet.capacity es))) c.in-Some.is
+    (named c.args.sheet.capacity es order rows c.by_release-order.ensures.sorted arranged c.whole_pass-found.result c.whole_pass-found.ensures)
 
 pub returns-in-None : goal.returns-in-None
 returns-in-None c =
-    let es = c.args.entries.now in
-    let order = c.by_release-order.result in
-    let rows = take (length es - 0) c.arranged-rows.result in
+    let es = c.args.sheet.entries.now in
+    let order = c.by_release-order.result.items in
+    let rows = c.as_slice-2.result.now in
     let sorted = c.by_release-order.ensures.sorted in
-    let arranged = front es order c.arranged-rows.result c.arranged-rows.ensures in
+    let arranged : Arranged es order rows = lent es order _ _ rows c.as_slice.ensures.value c.as_slice-2.ensures.value c.arranged-rows.ensures in
     let found = c.whole_pass-found.result in
-    let passed = c.whole_pass-found.ensures in (
-      nowhere c.args.capacity es order rows sorted arranged found passed c.requires c.in-None.is,
-      started c.args.capacity es order rows sorted arranged found passed c.requires c.in-None.is c.before-in-None.result c.before-in-None.ensures,
+    let passed = c.whole_pass-found.ensures in
+    let each = rw c.as_slice-in-None.ensures.value at c.before-in-None.ensures in (
+      nowhere c.args.sheet.capacity es order rows sorted arranged found passed c.args.sheet.sound c.in-None.is,
+      started c.args.sheet.capacity es order rows sorted arranged found passed c.args.sheet.sound c.in-None.is c.before-in-None.result each,
     )

@@ -1,7 +1,6 @@
--- The slots before t are raised.
-use Rattle.std.proofs.Common.{◌≡◌, ℕ, ◌+◌, ◌<◌, ◌≤◌, max, cond, ◌&&◌, ltb, leb, length, get_or}
+-- The slots before the one at the index are raised.
+use Rattle.std.proofs.Common.{◌≡◌, ℕ, ◌+◌, cond, ltb, get_or}
 use Rattle.time_table_rule.proofs.usage.raise.Given as goal
 
-abbrev pub invariant-loop-t : goal.invariant-loop-t
-invariant-loop-t l = (l.t ≤ max l.from l.to)
-    × ((k : ℕ) → k < length l.initial.line → get_or l.line k 0 ≡ get_or l.initial.line k 0 + cond (leb l.from k && ltb k l.t) l.by 0)
+abbrev pub invariant-loop-usage : goal.invariant-loop-usage
+invariant-loop-usage l = (k : ℕ) → get_or l.usage-items k 0 ≡ get_or l.initial.usage-items k 0 + cond (ltb k l.usage-index) l.by 0

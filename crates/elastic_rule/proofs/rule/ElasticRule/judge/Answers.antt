@@ -5,7 +5,6 @@ use Rattle.model.specs.Sheets.{Sheet, Sound, count}
 use Rattle.elastic.specs.Meaning.{meaning_E}
 use Rattle.elastic.proofs.Law.{evidence_is}
 use Rattle.elastic_rule.specs.Judged.{Judged}
-use Rattle.sheet.proofs.Listed.{same_sheet, same_sound}
 use Rattle.elastic_rule.proofs.rule.ElasticRule.judge.Goals as goal
 
 module _ (s : Sheet) (sound : Sound s) where
@@ -17,16 +16,10 @@ module _ (s : Sheet) (sound : Sound s) where
   starts (Ok x) h = h.1
   starts (Err i) h = tt
 
-pub judged-requires : goal.judged-requires
-judged-requires g c =
-    same_sound (g.S.Sheet.meaning c.args.sheet.now) c.capacity.result c.entries.result.now
-    c.capacity.ensures (c.entries.ensures ∙ c.list-list.ensures) (g.S.Sheet.limits c.args.sheet.now)
-
 pub returns : goal.returns
 returns g c =
     let s = g.S.Sheet.meaning c.args.sheet.now in
     let sound = g.S.Sheet.limits c.args.sheet.now in
     let r = c.judged.result in
-    let same = same_sheet s c.capacity.result c.entries.result.now c.capacity.ensures (c.entries.ensures ∙ c.list-list.ensures) in
-    let h = subst (λ (x : Sheet). Judged x r) same c.judged.ensures in
+    let h = subst (λ (x : Sheet). Judged x r) (c.lend.ensures ∙ c.list.ensures.sheet) c.judged.ensures in
     record { value = value s sound r h; told = value s sound r h; starts = starts s sound r h }

@@ -5,7 +5,6 @@ use Rattle.rules.specs.declared.slots.Slot.{Slot}
 use Rattle.timetable.specs.Meaning.{meaning_T}
 use Rattle.timetable.proofs.RuleT.{evidence_is_T}
 use Rattle.time_table_rule.specs.Shown.{told, shown, Judged}
-use Rattle.sheet.proofs.Listed.{same_sheet, same_sound}
 use Rattle.time_table_rule.proofs.Telling.{shown_told}
 use Rattle.time_table_rule.proofs.rule.TimeTableRule.judge.Goals as goal
 
@@ -22,15 +21,9 @@ module _ (s : Sheet) where
   starts (Ok x) h = h.1
   starts (Err f) h = tt
 
-pub judged-requires : goal.judged-requires
-judged-requires g c =
-    same_sound (g.S.Sheet.meaning c.args.sheet.now) c.capacity.result c.entries.result.now
-    c.capacity.ensures (c.entries.ensures ∙ c.list-list.ensures) (g.S.Sheet.limits c.args.sheet.now)
-
 pub returns : goal.returns
 returns g c =
     let s = g.S.Sheet.meaning c.args.sheet.now in
     let r = c.judged.result in
-    let same = same_sheet s c.capacity.result c.entries.result.now c.capacity.ensures (c.entries.ensures ∙ c.list-list.ensures) in
-    let h = subst (λ (x : Sheet). Judged x r) same c.judged.ensures in
+    let h = subst (λ (x : Sheet). Judged x r) (c.lend.ensures ∙ c.list.ensures.sheet) c.judged.ensures in
     record { value = value s r h; told = tells s r h; starts = starts s r h }
