@@ -2,13 +2,13 @@
 use Rattle.std.proofs.Common.{◌≡◌, ℕ, ◌+◌, ◌-◌, ◌<◌, ◌≤◌, List, length, get_or, Some, None, Option, refl, subst, inl, arith}
 use Rattle.std.proofs.ByRecursion.{All-weaker}
 use Rattle.model.specs.declared.intervals.Interval.{Interval}
-use Rattle.model.specs.Sheets.{Sheet, count, entry, rows_max}
+use Rattle.model.specs.Sheets.{Sheet, Sound, count, entry, rows_max}
 use Rattle.model.specs.Energy.{IsInterval, NegativeSlack, lack, ceiling}
 use Rattle.model.specs.Rules.{Named, NoLater}
 use Rattle.model.specs.Shift.{NegativeCandidate}
 use Rattle.shift.specs.Meaning.{made_by, meaning_S}
 use Rattle.shift.proofs.ByPairs.{OnPairs, some_by_pairs, none_by_pairs, start_by_pairs}
-use Rattle.shift.proofs.RuleS.{evidence_is_S, start_is_S, stays_S}
+use Rattle.shift.proofs.RuleS.{evidence_is_S, start_is_S, is_S}
 use Rattle.shift_rule.specs.declared.surveys.Survey.{Survey}
 use Rattle.shift_rule.specs.Found.{start_in, Right, LedBy, Accounted, AccountedAround}
 
@@ -54,6 +54,9 @@ module _ (s : Sheet) (v : Survey) (right : Right s v) (all : (i : ℕ) → i < c
       (t2 + ceiling (lack s k t1 t2) (entry s k).demand) - (entry s k).duration ≤ start_in v k)
       (λ t1 t2 h is before short. h.forced is (led None none t1 t2 h is) k l before short)))
 
-  -- where an interval was found, every start is the release
-  pub stays_are_S : (i : Interval) → v.first ≡ Some i → (k : ℕ) → k < count s → meaning_S.earliest s k ≡ Some (entry s k).release
-  stays_are_S i e k l = stays_S s k i.t1 i.t2 (right.negative i e) l
+-- beside evidence every start is the release
+pub stays_beside : (s : Sheet) → Sound s → (i : Interval) → meaning_S.evidence s ≡ Some i → (k : ℕ) → k < count s →
+    meaning_S.earliest s k ≡ Some (entry s k).release
+stays_beside s sound i e k l =
+    let named : Named (NegativeCandidate s) (Some i) = subst (Named (NegativeCandidate s)) e (is_S.named s sound) in
+    is_S.stays s sound i.t1 i.t2 named.0 k l

@@ -5,11 +5,11 @@ use Rattle.std.proofs.lemmas.Bool.{cases_lt}
 use Rattle.model.specs.declared.entries.Entry.{Entry}
 use Rattle.model.specs.Total.{total}
 use Rattle.model.specs.Sheets.{Sheet, Sound, count, entry, capacity_max, horizon, rows_max}
-use Rattle.model.specs.Energy.{left_part, right_part, held, energy_of, energy}
+use Rattle.model.specs.Energy.{left_part, right_part, held, energy_of}
 use Rattle.model.proofs.Sums.{total_ext, total_none, total_more}
 use Rattle.shift.proofs.Energies.{energy_is}
-use Rattle.shift_rule.specs.declared.ramps.Ramps.{Ramps}
-use Rattle.shift_rule.specs.Ramps.{climb, climbed, Low, From, To}
+use Rattle.shift_rule.specs.declared.slopes.Slopes.{Slopes}
+use Rattle.shift_rule.specs.Ramps.{climb, climbed, Low}
 
 -- ---- one entry
 held_from : (e : Entry) (t1 t2 : ℕ) → e.release + e.duration ≤ e.deadline → t1 < t2 →
@@ -20,6 +20,14 @@ held_to : (e : Entry) (t1 t2 : ℕ) → e.release + e.duration ≤ e.deadline �
     min ((t2 - t1) - (t2 - (e.release + e.duration))) (right_part e t2) ≡ held e t1 t2
 held_to e t1 t2 room l = grind arith
 
+pub rise_from : (e : Entry) (t1 t2 : ℕ) → e.release + e.duration ≤ e.deadline → t1 < t2 →
+    e.demand * min ((t2 - t1) - ((e.deadline - e.duration) - t1)) (left_part e t1) ≡ energy_of e t1 t2
+rise_from e t1 t2 room l = ap (λ (n : ℕ). e.demand * n) (held_from e t1 t2 room l) ∙ sym (energy_is e t1 t2)
+
+pub rise_to : (e : Entry) (t1 t2 : ℕ) → e.release + e.duration ≤ e.deadline → t1 < t2 →
+    e.demand * min ((t2 - t1) - (t2 - (e.release + e.duration))) (right_part e t2) ≡ energy_of e t1 t2
+rise_to e t1 t2 room l = ap (λ (n : ℕ). e.demand * n) (held_to e t1 t2 room l) ∙ sym (energy_is e t1 t2)
+
 -- no ramp climbs higher than the whole work of an entry
 pub small_climb : (s : Sheet) → Sound s → (k : ℕ) → k < count s → (long : ℕ) → long ≤ (entry s k).duration → (entry s k).demand * long ≤ 16511040
 small_climb s sound k l long less =
@@ -29,13 +37,13 @@ small_climb s sound k l long less =
     omega (arith, mul-le-mul c h)
 
 -- ---- sums of ramps
-pub climbed_none : (r : Ramps) → r.count ≡ 0 → (far : ℕ) → climbed r far ≡ 0
+pub climbed_none : (r : Slopes) → r.count ≡ 0 → (far : ℕ) → climbed r far ≡ 0
 unfolding climbed
 climbed_none r e far = ap (λ (n : ℕ). total n (climb r far)) e ∙ total_none (climb r far)
 
-pub low_none : (r : Ramps) → r.count ≡ 0 → (length r.offsets ≡ rows_max) × (length r.lengths ≡ rows_max) × (length r.demands ≡ rows_max) →
-    r.top ≡ 0 → ((k : ℕ) → get_or r.demands k 0 ≡ 0) → Low r
-low_none r e many z idle =
+pub low_none : (r : Slopes) → r.count ≡ 0 → (length r.offsets ≡ rows_max) × (length r.lengths ≡ rows_max) × (length r.demands ≡ rows_max) →
+    ((k : ℕ) → get_or r.demands k 0 ≡ 0) → Low r 0
+low_none r e many idle =
     record {
       past = λ k _. idle k;
       few = omega arith;
@@ -46,33 +54,32 @@ low_none r e many z idle =
     }
 
 -- past the last ramp nothing climbs, so that more places give the same sum
-pub climb_past : (r : Ramps) → Low r → (far k : ℕ) → r.count ≤ k → climb r far k ≡ 0
-climb_past r low far k l =
+pub climb_past : (r : Slopes) (top : ℕ) → Low r top → (far k : ℕ) → r.count ≤ k → climb r far k ≡ 0
+climb_past r top low far k l =
     omega (arith, ap (λ (c : ℕ). c * min (far - get_or r.offsets k 0) (get_or r.lengths k 0)) (low.past k l))
 
-past_idle : (r : Ramps) → Low r → (far m : ℕ) → total (r.count + m) (climb r far) ≡ total r.count (climb r far)
-past_idle r low far zero = ap (λ (n : ℕ). total n (climb r far)) (omega arith)
-past_idle r low far (suc m) =
+past_idle : (r : Slopes) (top : ℕ) → Low r top → (far m : ℕ) → total (r.count + m) (climb r far) ≡ total r.count (climb r far)
+past_idle r top low far zero = ap (λ (n : ℕ). total n (climb r far)) (omega arith)
+past_idle r top low far (suc m) =
     let e : r.count + suc m ≡ (r.count + m) + 1 = omega arith in
     ap (λ (n : ℕ). total n (climb r far)) e
-    ∙ omega (arith, total_more (climb r far) (r.count + m), climb_past r low far (r.count + m) (omega arith), past_idle r low far m)
+    ∙ omega (arith, total_more (climb r far) (r.count + m), climb_past r top low far (r.count + m) (omega arith), past_idle r top low far m)
 
-pub climbed_is : (r : Ramps) (far : ℕ) → climbed r far ≡ total r.count (climb r far)
+pub climbed_is : (r : Slopes) (far : ℕ) → climbed r far ≡ total r.count (climb r far)
 unfolding climbed
 climbed_is r far = refl
 
-pub climbed_by : (r : Ramps) → Low r → (far n : ℕ) → r.count ≤ n → climbed r far ≡ total n (climb r far)
-climbed_by r low far n more =
+pub climbed_by : (r : Slopes) (top : ℕ) → Low r top → (far n : ℕ) → r.count ≤ n → climbed r far ≡ total n (climb r far)
+climbed_by r top low far n more =
     let e : r.count + (n - r.count) ≡ n = omega arith in
-    climbed_is r far ∙ sym (past_idle r low far (n - r.count)) ∙ ap (λ (m : ℕ). total m (climb r far)) e
+    climbed_is r far ∙ sym (past_idle r top low far (n - r.count)) ∙ ap (λ (m : ℕ). total m (climb r far)) e
 
 -- one ramp more, at the next place
-module _ (r : Ramps) (low : Low r) (room : r.count < rows_max) (offset long demand : ℕ) where
-  abbrev more : Ramps
+module _ (r : Slopes) (top : ℕ) (low : Low r top) (room : r.count < rows_max) (offset long demand : ℕ) where
+  abbrev more : Slopes
   more =
       record {
         count = r.count + 1;
-        top = r.top + demand * long;
         offsets = set r.offsets r.count offset;
         lengths = set r.lengths r.count long;
         demands = set r.demands r.count demand;
@@ -100,7 +107,7 @@ module _ (r : Ramps) (low : Low r) (room : r.count < rows_max) (offset long dema
       let rest = total_ext r.count (climb more far) (climb r far) (before far) in
       omega (arith, climbed_is more far, climbed_is r far, here far)
 
-  pub low_more : demand * long ≤ 16511040 → Low more
+  pub low_more : demand * long ≤ 16511040 → Low more (top + demand * long)
   low_more small =
       let (a, b, d) = low.places in
       record {
@@ -129,30 +136,15 @@ module _ (r : Ramps) (low : Low r) (room : r.count < rows_max) (offset long dema
 
 -- ---- all entries
 
--- the ramps of the first i entries
-abbrev pub Added : Sheet → (Entry → ℕ) → (Entry → ℕ) → ℕ → Ramps → Type 0
-Added s offset long i r = (far : ℕ) → climbed r far ≡ total i (λ k. (entry s k).demand * min (far - offset (entry s k)) (long (entry s k)))
+-- the ramps of the first i entries, at the intervals that have a side
+abbrev pub Added : Sheet → (ℕ → ℕ → Type 0) → ℕ → Slopes → Type 0
+Added s has i r = (t1 t2 : ℕ) → has t1 t2 → t1 < t2 → climbed r (t2 - t1) ≡ total i (λ k. energy_of (entry s k) t1 t2)
 
-pub added_none : (s : Sheet) (offset long : Entry → ℕ) (r : Ramps) → r.count ≡ 0 → Added s offset long 0 r
-added_none s offset long r e far = climbed_none r e far ∙ sym (total_none (λ k. (entry s k).demand * min (far - offset (entry s k)) (long (entry s k))))
+pub added_none : (s : Sheet) (has : ℕ → ℕ → Type 0) (r : Slopes) → r.count ≡ 0 → Added s has 0 r
+added_none s has r e t1 t2 _ _ = climbed_none r e (t2 - t1) ∙ sym (total_none (λ k. energy_of (entry s k) t1 t2))
 
-pub added_more : (s : Sheet) (offset long : Entry → ℕ) (i : ℕ) (r w : Ramps) → Added s offset long i r → (o l : ℕ) → o ≡ offset (entry s i) →
-    l ≡ long (entry s i) → ((far : ℕ) → climbed w far ≡ climbed r far + (entry s i).demand * min (far - o) l) → Added s offset long (i + 1) w
-added_more s offset long i r w a o l eo el h far =
-    let same : min (far - o) l ≡ min (far - offset (entry s i)) (long (entry s i)) = omega arith in
-    let times = ap (λ (n : ℕ). (entry s i).demand * n) same in
-    omega (arith, h far, a far, total_more (λ k. (entry s k).demand * min (far - offset (entry s k)) (long (entry s k))) i)
-
-module _ (s : Sheet) (sound : Sound s) (offset long : Entry → ℕ) (r : Ramps) (added : Added s offset long (count s) r) (t1 t2 : ℕ)
-    (is : (e : Entry) → e.release + e.duration ≤ e.deadline → min ((t2 - t1) - offset e) (long e) ≡ held e t1 t2) where
-  all_energies : climbed r (t2 - t1) ≡ energy s t1 t2
-  all_energies =
-      added (t2 - t1)
-      ∙ total_ext (count s) _ (λ k. energy_of (entry s k) t1 t2)
-      (λ k l. ap (λ (n : ℕ). (entry s k).demand * n) (is (entry s k) (sound.each k l).room) ∙ sym (energy_is (entry s k) t1 t2))
-
-pub energies_from : (s : Sheet) → Sound s → (t1 : ℕ) (r : Ramps) → Added s (λ e. (e.deadline - e.duration) - t1) (λ e. left_part e t1) (count s) r → From s t1 r
-energies_from s sound t1 r added t2 l = all_energies s sound (λ e. (e.deadline - e.duration) - t1) (λ e. left_part e t1) r added t1 t2 (λ e room. held_from e t1 t2 room l)
-
-pub energies_to : (s : Sheet) → Sound s → (t2 : ℕ) (r : Ramps) → Added s (λ e. t2 - (e.release + e.duration)) (λ e. right_part e t2) (count s) r → To s t2 r
-energies_to s sound t2 r added t1 l = all_energies s sound (λ e. t2 - (e.release + e.duration)) (λ e. right_part e t2) r added t1 t2 (λ e room. held_to e t1 t2 room l)
+pub added_more : (s : Sheet) (has : ℕ → ℕ → Type 0) (i : ℕ) (r w : Slopes) (one : ℕ → ℕ) → Added s has i r →
+    ((t1 t2 : ℕ) → has t1 t2 → t1 < t2 → one (t2 - t1) ≡ energy_of (entry s i) t1 t2) → ((far : ℕ) → climbed w far ≡ climbed r far + one far) →
+    Added s has (i + 1) w
+added_more s has i r w one old here climbs t1 t2 h l =
+    omega (arith, climbs (t2 - t1), old t1 t2 h l, here t1 t2 h l, total_more (λ k. energy_of (entry s k) t1 t2) i)

@@ -6,6 +6,5 @@ pub mod Passed
 pub mod Onward
 pub mod Made
 pub mod Answered
-pub mod Meant
 pub mod Climbing
 pub mod Gone

@@ -2,7 +2,7 @@
 use Rattle.std.proofs.Common.{◌≡◌, ℕ, ◌+◌, ◌-◌, ◌*◌, ◌<◌, ◌≤◌, refl, arith}
 use Rattle.model.specs.Sheets.{Sheet, Sound}
 use Rattle.model.specs.Energy.{IsInterval, Candidate, energy}
-use Rattle.shift_rule.specs.declared.ramps.Ramps.{Ramps}
+use Rattle.shift_rule.specs.declared.slopes.Slopes.{Slopes}
 use Rattle.shift_rule.specs.declared.surveys.Survey.{Survey}
 use Rattle.shift_rule.specs.Leeways.{Enough}
 use Rattle.shift_rule.specs.Ramps.{Low, climbed}
@@ -17,10 +17,10 @@ only_intervals s v t1 t2 h =
       forced = λ is under k l before short. (h is).forced is under k l before short;
     }
 
-pub passed_by : (s : Sheet) → Sound s → (v : Survey) → Right s v → (r : Ramps) → Low r → (reach t1 t2 : ℕ) → Enough s t2 reach →
+pub passed_by : (s : Sheet) → Sound s → (v : Survey) → Right s v → (r : Slopes) (top : ℕ) → Low r top → (reach t1 t2 : ℕ) → Enough s t2 reach →
     (t1 < t2 → climbed r (t2 - t1) ≡ energy s t1 t2) → (IsInterval t1 t2 → Candidate s t1 t2) →
-    (IsInterval t1 t2 → r.top + reach ≤ s.capacity * (t2 - t1)) → Accounted s v t1 t2
-passed_by s sound v right r low reach t1 t2 enough energies candidate far =
+    (IsInterval t1 t2 → top + reach ≤ s.capacity * (t2 - t1)) → Accounted s v t1 t2
+passed_by s sound v right r top low reach t1 t2 enough energies candidate far =
     only_intervals s v t1 t2 (λ is.
     let wide = far is in
     let topped = low.topped (t2 - t1) in

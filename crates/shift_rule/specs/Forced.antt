@@ -1,12 +1,7 @@
 -- The start that one interval forces on one entry, by the slack that all entries leave it.
-use Rattle.std.specs.Prelude.{ℕ, ◌+◌, ◌-◌, ◌*◌, min, cond, ◌&&◌, List, nat_lt}
+use Rattle.std.specs.Prelude.{ℕ, ◌+◌, ◌-◌, ◌*◌, min, cond, ◌&&◌, nat_lt}
 use Rattle.model.specs.declared.entries.Entry.{Entry}
-use Rattle.model.specs.Sheets.{Sheet}
 use Rattle.model.specs.Energy.{left_part, held, ceiling}
-
--- The sheet of a capacity and a list of entries.
-abbrev pub sheet_of : ℕ → List Entry → Sheet
-sheet_of capacity es = record { capacity = capacity; entries = es }
 
 -- What the interval lacks where the entry starts as early as it can: its demand in the slots that it does not hold anyway, less the slack.
 abbrev pub lack_beside : Entry → ℕ → ℕ → ℕ → ℕ

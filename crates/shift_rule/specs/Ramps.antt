@@ -3,30 +3,35 @@ use Rattle.std.specs.Prelude.{◌≡◌, ℕ, ◌-◌, ◌*◌, ◌<◌, ◌≤�
 use Rattle.model.specs.Total.{total}
 use Rattle.model.specs.Sheets.{Sheet, rows_max}
 use Rattle.model.specs.Energy.{energy}
-use Rattle.shift_rule.specs.declared.ramps.Ramps.{Ramps}
+use Rattle.shift_rule.specs.declared.slopes.Ramp.{Ramp}
+use Rattle.shift_rule.specs.declared.slopes.Slopes.{Slopes}
+
+-- The energy at a distance on a ramp.
+abbrev pub rise : Ramp → ℕ → ℕ
+rise r far = r.demand * min (far - r.offset) r.length
 
 -- The energy at a distance on the ramp at place k.
-abbrev pub climb : Ramps → ℕ → ℕ → ℕ
+abbrev pub climb : Slopes → ℕ → ℕ → ℕ
 climb r far k = slice_index r.demands k * min (far - slice_index r.offsets k) (slice_index r.lengths k)
 
 -- The energies at a distance on all ramps.
-unfoldable pub climbed : Ramps → ℕ → ℕ
+unfoldable pub climbed : Slopes → ℕ → ℕ
 climbed r far = total r.count (climb r far)
 
 -- All ramps stand at their places, past which nothing climbs; none climbs higher than 4032 slots of 4095 channels, and all together no
 -- higher than the top.
-pub record Low (r : Ramps) : Type 0 where
+pub record Low (r : Slopes) (top : ℕ) : Type 0 where
   pub few : r.count ≤ rows_max
   pub places : (length r.offsets ≡ rows_max) × (length r.lengths ≡ rows_max) × (length r.demands ≡ rows_max)
   pub past : (k : ℕ) → r.count ≤ k → slice_index r.demands k ≡ 0
-  pub summed : r.top ≤ 16511040 * r.count
-  pub topped : (far : ℕ) → climbed r far ≤ r.top
+  pub summed : top ≤ 16511040 * r.count
+  pub topped : (far : ℕ) → climbed r far ≤ top
   pub low : (k : ℕ) → k < r.count → slice_index r.demands k * slice_index r.lengths k ≤ 16511040
 
 -- The ramps have the energies of the intervals that begin at t1.
-abbrev pub From : Sheet → ℕ → Ramps → Type 0
+abbrev pub From : Sheet → ℕ → Slopes → Type 0
 From s t1 r = (t2 : ℕ) → t1 < t2 → climbed r (t2 - t1) ≡ energy s t1 t2
 
 -- The ramps have the energies of the intervals that close at t2.
-abbrev pub To : Sheet → ℕ → Ramps → Type 0
+abbrev pub To : Sheet → ℕ → Slopes → Type 0
 To s t2 r = (t1 : ℕ) → t1 < t2 → climbed r (t2 - t1) ≡ energy s t1 t2

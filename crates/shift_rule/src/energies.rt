@@ -1,6 +1,5 @@
 // The energy of an entry in an interval, and the start that an interval forces on it.
 ghost use Rattle.std.specs.Prelude.{◌≡◌, ◌+◌, ◌≤◌};
-ghost use Rattle.model.specs.Sheets.{SoundEntry};
 ghost use Rattle.model.specs.Energy.{left_part, right_part, energy_of, ceiling};
 ghost use Rattle.shift_rule.specs.Forced.{lack_beside, start_after};
 
@@ -28,7 +27,7 @@ fn energy_of(e: Entry, t1: u16, t2: u16) -> u32
     let left = left_part(e, t1);
     let right = right_part(e, t2);
     let held = length.min(left).min(right);
-    e.demand as u32 * held as u32
+    u32::from(e.demand) * u32::from(held)
 }
 
 // What an interval with this slack lacks where the entry starts as early as it can.
@@ -36,7 +35,7 @@ fn lack_beside(e: Entry, t1: u16, t2: u16, slack: u32) -> u32
     ensures { result ≡ lack_beside e t1 t2 slack }
 {
     let early = t2.saturating_sub(t1).min(left_part(e, t1));
-    (e.demand as u32 * early as u32 - energy_of(e, t1, t2)).saturating_sub(slack)
+    (u32::from(e.demand) * u32::from(early) - energy_of(e, t1, t2)).saturating_sub(slack)
 }
 
 // The quotient rounded up.
@@ -48,8 +47,8 @@ fn rounded_up(x: u32, c: u32) -> u32
 }
 
 // The start that an interval with this slack forces on an entry, and 0 where it forces none.
-pub(crate) fn forced_start(capacity: u16, e: Entry, t1: u16, t2: u16, slack: u32) -> u16
-    requires { SoundEntry capacity e }
+pub(crate) fn forced_start(e: Entry, t1: u16, t2: u16, slack: u32) -> u16
+    requires { 1 ≤ e.demand }
     ensures { result ≡ start_after e t1 t2 slack }
 {
     if t2 >= e.deadline {
@@ -59,6 +58,7 @@ pub(crate) fn forced_start(capacity: u16, e: Entry, t1: u16, t2: u16, slack: u32
     if lack == 0 {
         return 0;
     }
-    let end = t2 as u32 + rounded_up(lack, e.demand as u32);
+    // the end lies within the deadline, so that it fits
+    let end = u32::from(t2) + rounded_up(lack, u32::from(e.demand));
     (end as u16).saturating_sub(e.duration)
 }

@@ -1,35 +1,36 @@
 // Passes over the candidates of a sheet.
-ghost use Rattle.std.specs.Prelude.{◌≡◌, ℕ, ◌<◌, ◌≤◌, length, slice_index, slice_index_or};
-ghost use Rattle.model.specs.Sheets.{Sound, SoundEntry, count, entry, blank, rows_max};
+ghost use Rattle.std.specs.Prelude.{◌≡◌, ℕ, ◌<◌, ◌≤◌};
+ghost use Rattle.model.specs.Sheets.{count, entry, horizon};
 ghost use Rattle.model.specs.Energy.{StartPoint, EndPoint, IsInterval, Candidate};
 ghost use Rattle.shift.specs.Meaning.{from_start, to_end};
-ghost use Rattle.shift_rule.specs.Forced.{sheet_of};
-ghost use Rattle.shift_rule.specs.Leeways.{Enough, Known, sheet_in};
-ghost use Rattle.shift_rule.specs.Ramps.{Low, From, To};
+ghost use Rattle.sheet.specs.Listed.{meant};
+ghost use Rattle.shift_rule.specs.Leeways.{Enough};
+ghost use Rattle.shift_rule.specs.Subjects.{sheet_in};
+ghost use Rattle.shift_rule.specs.Ramps.{From, To};
 ghost use Rattle.shift_rule.specs.Points.{GoneThrough};
 ghost use Rattle.shift_rule.specs.Found.{Right, Accounted, Onward, AllCandidates, AllAccounted, AccountedFrom, AccountedTo, AccountedAround};
 
-use crate::climbs::{ramps_from, ramps_to};
-use crate::points::Points;
+use crate::climbs::ramps;
+use crate::points::{MARKS, Points};
 use crate::ramps::Ramps;
 use crate::reaching::subject;
+use crate::sides::{Close, Start};
 use crate::subjects::Subject;
 use crate::surveys::Survey;
 use crate::visits::{visit, visit_other};
 use model::entries::Entry;
+use sheet::lists::Listed;
 
 // Accounts for the intervals from t1 to each end point of the entry at a place, and to the partner of t1 in its window.
 fn from_to(subject: &Subject, ramps: &Ramps, t1: u16, place: usize, found: &mut Survey)
-    requires known { Known subject.now }
-    requires low { Low ramps.now }
-    requires energies { From (sheet_in subject.now) t1 ramps.now }
+    requires energies { From (sheet_in subject.now) t1 ramps.now.slopes }
     requires place { place < count (sheet_in subject.now) }
     requires right { Right (sheet_in subject.now) found.old }
     requires candidates { AllCandidates (sheet_in subject.now) (from_start t1 (entry (sheet_in subject.now) place)) }
     ensures onward { Onward (sheet_in subject.now) found.old found.new }
     ensures accounted { AllAccounted (sheet_in subject.now) found.new (from_start t1 (entry (sheet_in subject.now) place)) }
 {
-    let e = subject.entries[place];
+    let e = subject.movers.sheet.entries[place];
     let reach = subject.reaches[place];
     let early_end = e.release + e.duration;
     let late_start = e.deadline - e.duration;
@@ -49,8 +50,8 @@ fn from_to(subject: &Subject, ramps: &Ramps, t1: u16, place: usize, found: &mut 
 }
 
 // The slot whose partner in the window of an entry is t2; t2 itself where it would lie before slot 0.
-fn partner(capacity: u16, t2: u16, e: Entry) -> u16
-    requires { SoundEntry capacity e }
+fn partner(t2: u16, e: Entry) -> u16
+    requires { (e.release ≤ horizon) × (e.deadline ≤ horizon) }
     ensures { result ≡ (to_end t2 e).t1 }
 {
     let both = e.release + e.deadline;
@@ -59,52 +60,47 @@ fn partner(capacity: u16, t2: u16, e: Entry) -> u16
 
 // Accounts for the interval from the partner of t2 in the window of an entry to t2.
 fn to_from(subject: &Subject, ramps: &Ramps, reach: u32, t2: u16, e: Entry, found: &mut Survey)
-    requires known { Known subject.now }
     requires enough { Enough (sheet_in subject.now) t2 reach }
-    requires low { Low ramps.now }
-    requires energies { To (sheet_in subject.now) t2 ramps.now }
-    requires fine { SoundEntry subject.now.capacity e }
+    requires energies { To (sheet_in subject.now) t2 ramps.now.slopes }
+    requires fine { (e.release ≤ horizon) × (e.deadline ≤ horizon) }
     requires right { Right (sheet_in subject.now) found.old }
     requires candidate { IsInterval (to_end t2 e).t1 t2 → Candidate (sheet_in subject.now) (to_end t2 e).t1 t2 }
     ensures onward { Onward (sheet_in subject.now) found.old found.new }
     ensures accounted { Accounted (sheet_in subject.now) found.new (to_end t2 e).t1 t2 }
 {
-    let t1 = partner(subject.capacity, t2, e);
+    let t1 = partner(t2, e);
     visit(subject, ramps, reach, t1, t2, found);
 }
 
 // Accounts for the candidates of the first two kinds that begin at a start point.
 fn from_start(subject: &Subject, t1: u16, found: &mut Survey)
-    requires known { Known subject.now }
     requires right { Right (sheet_in subject.now) found.old }
     requires point { StartPoint (sheet_in subject.now) t1 }
     ensures onward { Onward (sheet_in subject.now) found.old found.new }
     ensures accounted { AccountedFrom (sheet_in subject.now) found.new t1 }
 {
-    let ramps = ramps_from(subject.capacity, subject.entries, t1);
-    for place in 0..subject.entries.len() {
+    let ramps = ramps(subject.movers.sheet, &Start { at: t1 });
+    for place in 0..subject.movers.sheet.entries.len() {
         from_to(subject, &ramps, t1, place, found);
     }
 }
 
 // Accounts for the candidates of the third kind that close at an end point.
 fn to_end(subject: &Subject, reach: u32, t2: u16, found: &mut Survey)
-    requires known { Known subject.now }
     requires enough { Enough (sheet_in subject.now) t2 reach }
     requires right { Right (sheet_in subject.now) found.old }
     requires point { EndPoint (sheet_in subject.now) t2 }
     ensures onward { Onward (sheet_in subject.now) found.old found.new }
     ensures accounted { AccountedTo (sheet_in subject.now) found.new t2 }
 {
-    let ramps = ramps_to(subject.capacity, subject.entries, t2);
-    for e in subject.entries {
+    let ramps = ramps(subject.movers.sheet, &Close { at: t2 });
+    for e in subject.movers.sheet.entries {
         to_from(subject, &ramps, reach, t2, *e, found);
     }
 }
 
 // The same for a start point, unless it has been gone through.
 fn begin(subject: &Subject, t1: u16, found: &mut Survey, points: &mut Points)
-    requires known { Known subject.now }
     requires right { Right (sheet_in subject.now) found.old }
     requires gone { GoneThrough (sheet_in subject.now) found.old points.old }
     requires point { StartPoint (sheet_in subject.now) t1 }
@@ -121,7 +117,6 @@ fn begin(subject: &Subject, t1: u16, found: &mut Survey, points: &mut Points)
 
 // The same for an end point, unless it has been gone through.
 fn close(subject: &Subject, reach: u32, t2: u16, found: &mut Survey, points: &mut Points)
-    requires known { Known subject.now }
     requires enough { Enough (sheet_in subject.now) t2 reach }
     requires right { Right (sheet_in subject.now) found.old }
     requires gone { GoneThrough (sheet_in subject.now) found.old points.old }
@@ -139,7 +134,6 @@ fn close(subject: &Subject, reach: u32, t2: u16, found: &mut Survey, points: &mu
 
 // Accounts for all candidates that begin or close at a point of the entry at a place.
 fn around(subject: &Subject, place: usize, found: &mut Survey, points: &mut Points)
-    requires known { Known subject.now }
     requires right { Right (sheet_in subject.now) found.old }
     requires gone { GoneThrough (sheet_in subject.now) found.old points.old }
     requires place { place < count (sheet_in subject.now) }
@@ -147,7 +141,7 @@ fn around(subject: &Subject, place: usize, found: &mut Survey, points: &mut Poin
     ensures gone { GoneThrough (sheet_in subject.now) found.new points.new }
     ensures accounted { AccountedAround (sheet_in subject.now) found.new place }
 {
-    let e = subject.entries[place];
+    let e = subject.movers.sheet.entries[place];
     let reach = subject.reaches[place];
     let early_end = e.release + e.duration;
     let late_start = e.deadline - e.duration;
@@ -159,44 +153,29 @@ fn around(subject: &Subject, place: usize, found: &mut Survey, points: &mut Poin
     close(subject, reach.late_start, late_start, found, points);
 }
 
-// The releases of the entries, at their places.
-pub(crate) fn releases(entries: &[Entry]) -> [u16; 64]
-    requires { length entries.now ≤ rows_max }
-    ensures places { length result ≡ rows_max }
-    ensures each { (k : ℕ) → k < length entries.now → slice_index result k ≡ (slice_index_or entries.now k blank).release }
-{
-    let mut starts = [0; 64];
-    for k in 0..entries.len() {
-        starts[k] = entries[k].release;
-    }
-    starts
-}
-
 // One pass over all candidates of what is known.
 fn go_through(subject: &Subject) -> Survey
-    requires { Known subject.now }
     ensures right { Right (sheet_in subject.now) result }
     ensures accounted { (i : ℕ) → i < count (sheet_in subject.now) → AccountedAround (sheet_in subject.now) result i }
 {
     let mut found = Survey {
         first: None,
-        starts: releases(subject.entries),
+        starts: subject.movers.sheet.releases(),
     };
     let mut points = Points {
-        begun: [false; 4033],
-        closed: [false; 4033],
+        begun: [false; MARKS],
+        closed: [false; MARKS],
     };
-    for i in 0..subject.entries.len() {
+    for i in 0..subject.movers.sheet.entries.len() {
         around(subject, i, &mut found, &mut points);
     }
     found
 }
 
 // One pass over all candidates.
-pub(crate) fn survey(capacity: u16, entries: &[Entry]) -> Survey
-    requires { Sound (sheet_of capacity entries.now) }
-    ensures right { Right (sheet_of capacity entries.now) result }
-    ensures accounted { (i : ℕ) → i < length entries.now → AccountedAround (sheet_of capacity entries.now) result i }
+pub(crate) fn survey(sheet: Listed<'_>) -> Survey
+    ensures right { Right (meant sheet.entry) result }
+    ensures accounted { (i : ℕ) → i < count (meant sheet.entry) → AccountedAround (meant sheet.entry) result i }
 {
-    go_through(&subject(capacity, entries))
+    go_through(&subject(sheet))
 }

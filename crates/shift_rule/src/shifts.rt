@@ -1,9 +1,11 @@
 // S as a rule.
+ghost use Rattle.std.specs.Prelude.{refl};
 ghost use Rattle.shift.specs.Meaning.{meaning_S, first_negative};
 ghost use Rattle.shift.proofs.RuleS.{is_S, lawful_S};
 
-use crate::answers::{earliest_starts, first_negative, judged};
+use crate::answers::judged;
 use model::intervals::Interval;
+use model::limits::ROWS_MAX;
 use rules::rule::Rule;
 use sheet::listing::list;
 use sheet::sheets::Sheet;
@@ -16,9 +18,13 @@ impl Rule for Shift {
 
     const LETTER: char = 'S';
 
+    ghost LETTER = { 83 };
+
     ghost means = { λ _. meaning_S };
 
     ghost shows = { λ _. first_negative };
+
+    ghost lettered = { λ _. refl };
 
     ghost proper = { λ _. (lawful_S meaning_S is_S).proper };
 
@@ -26,33 +32,27 @@ impl Rule for Shift {
 
     ghost bounds = { λ _. (lawful_S meaning_S is_S).never_before };
 
-    fn mark(&self) -> char {
-        Self::LETTER
-    }
-
     fn evidence<S: Sheet>(&self, sheet: &S) -> Option<Interval> {
-        let list = list(sheet);
-        first_negative(sheet.capacity(), list.entries())
+        self.judge(sheet).err()
     }
 
     fn earliest<S: Sheet>(&self, sheet: &S, place: usize) -> Option<u16> {
-        let list = list(sheet);
-        let entries = list.entries();
-        let starts = earliest_starts(sheet.capacity(), entries);
-        if place < entries.len() {
-            Some(starts[place])
+        if place < sheet.count() {
+            Some(self.earliest_all(sheet)[place])
         } else {
             None
         }
     }
 
-    fn earliest_all<S: Sheet>(&self, sheet: &S) -> [u16; 64] {
+    fn earliest_all<S: Sheet>(&self, sheet: &S) -> [u16; ROWS_MAX] {
         let list = list(sheet);
-        earliest_starts(sheet.capacity(), list.entries())
+        match judged(list.lend()) {
+            Ok(starts) => starts,
+            Err(_) => list.lend().releases(),
+        }
     }
 
-    fn judge<S: Sheet>(&self, sheet: &S) -> Result<[u16; 64], Interval> {
-        let list = list(sheet);
-        judged(sheet.capacity(), list.entries())
+    fn judge<S: Sheet>(&self, sheet: &S) -> Result<[u16; ROWS_MAX], Interval> {
+        judged(list(sheet).lend())
     }
 }

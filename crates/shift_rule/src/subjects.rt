@@ -1,14 +1,17 @@
 // What a pass is over.
-use crate::leeways::{Movers, Reach};
-use model::entries::Entry;
+ghost use Rattle.sheet.specs.Listed.{meant};
+ghost use Rattle.shift_rule.specs.Leeways.{Known};
 
-// A capacity and entries, the places of those that have a slot to spare, and how much slack moves none of them: at the end
+use crate::leeways::Reach;
+use crate::movers::Movers;
+use model::limits::ROWS_MAX;
+
+// A sheet, the places of its entries that have a slot to spare, and how much slack moves none of them: at the end
 // points of each entry, and anywhere.
 #[derive(Drop)]
 pub struct Subject<'a> {
-    pub(crate) capacity: u16,
-    pub(crate) entries: &'a [Entry],
-    pub(crate) movers: Movers,
-    pub(crate) reaches: [Reach; 64],
+    pub(crate) movers: Movers<'a>,
+    pub(crate) reaches: [Reach; ROWS_MAX],
     pub(crate) most: u32,
+    ghost known: { Known (meant movers.sheet) reaches most },
 }

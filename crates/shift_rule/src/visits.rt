@@ -3,12 +3,12 @@ ghost use Rattle.std.specs.Prelude.{◌≡◌, ℕ, ◌+◌, ◌-◌, ◌*◌, �
 ghost use Rattle.model.specs.Sheets.{count, entry};
 ghost use Rattle.model.specs.Energy.{IsInterval, Candidate, energy as all_energy};
 ghost use Rattle.shift_rule.specs.Forced.{start_after};
-ghost use Rattle.shift_rule.specs.Leeways.{Enough, Known, sheet_in};
-ghost use Rattle.shift_rule.specs.Ramps.{Low, climbed};
+ghost use Rattle.shift_rule.specs.Leeways.{Enough};
+ghost use Rattle.shift_rule.specs.Subjects.{sheet_in};
+ghost use Rattle.shift_rule.specs.Ramps.{climbed};
 ghost use Rattle.shift_rule.specs.Found.{Right, Accounted, Onward};
 ghost use Rattle.shift.specs.Meaning.{sooner};
 
-use crate::climbs::climbed;
 use crate::energies::forced_start;
 use crate::ramps::Ramps;
 use crate::subjects::Subject;
@@ -17,47 +17,41 @@ use model::intervals::Interval;
 use model::limits::SLOTS;
 
 // The first, by start and then by end, of what was found and one interval more.
-fn sooner(found: Option<Interval>, t1: u16, t2: u16) -> Option<Interval>
-    ensures { result ≡ sooner (record { t1 = t1; t2 = t2 }) found }
+fn sooner(found: Option<Interval>, here: Interval) -> Option<Interval>
+    ensures { result ≡ sooner here found }
 {
-    match found {
-        Some(i) if i.t1 < t1 || (i.t1 == t1 && i.t2 < t2) => found,
-        _ => Some(Interval { t1, t2 }),
-    }
+    Some(found.map_or(here, |before| before.min(here)))
 }
 
 // Raises each start to the one that an interval with this slack forces. Only an entry that has a slot to spare, and is released
 // before the interval closes, can be forced to start after its release.
 fn raise(subject: &Subject, t1: u16, t2: u16, slack: u32, starts: &mut [u16])
-    requires known { Known subject.now }
     requires places { count (sheet_in subject.now) ≤ length starts.old }
     requires released { (k : ℕ) → k < count (sheet_in subject.now) → (entry (sheet_in subject.now) k).release ≤ slice_index starts.old k }
     ensures { (k : ℕ) → k < count (sheet_in subject.now) → slice_index starts.new k ≡ max (slice_index starts.old k) (start_after (entry (sheet_in subject.now) k) t1 t2 slack) }
 {
-    for q in 0..subject.movers.count {
-        let k = subject.movers.places[q];
-        let e = subject.entries[k];
+    let movers = &subject.movers;
+    for place in movers.places.as_slice() {
+        let e = movers.sheet.entries[*place];
         if e.release < t2 {
-            starts[k] = starts[k].max(forced_start(subject.capacity, e, t1, t2, slack));
+            starts[*place] = starts[*place].max(forced_start(e, t1, t2, slack));
         }
     }
 }
 
 // Accounts for a candidate by ramps that have its energies; `reach` is as much slack as moves no entry.
 fn weigh(subject: &Subject, ramps: &Ramps, reach: u32, t1: u16, t2: u16, found: &mut Survey)
-    requires known { Known subject.now }
     requires enough { Enough (sheet_in subject.now) t2 reach }
-    requires low { Low ramps.now }
-    requires energies { climbed ramps.now (t2 - t1) ≡ all_energy (sheet_in subject.now) t1 t2 }
+    requires energies { climbed ramps.now.slopes (t2 - t1) ≡ all_energy (sheet_in subject.now) t1 t2 }
     requires right { Right (sheet_in subject.now) found.old }
     requires candidate { Candidate (sheet_in subject.now) t1 t2 }
     ensures onward { Onward (sheet_in subject.now) found.old found.new }
     ensures accounted { Accounted (sheet_in subject.now) found.new t1 t2 }
 {
-    let room = subject.capacity as u32 * (t2 - t1) as u32;
-    let energy = climbed(ramps, t2 - t1);
+    let room = u32::from(subject.movers.sheet.capacity) * u32::from(t2 - t1);
+    let energy = ramps.climbed(t2 - t1);
     if room < energy {
-        found.first = sooner(found.first, t1, t2);
+        found.first = sooner(found.first, Interval { t1, t2 });
     } else if room - energy < reach {
         raise(subject, t1, t2, room - energy, &mut found.starts);
     }
@@ -65,12 +59,12 @@ fn weigh(subject: &Subject, ramps: &Ramps, reach: u32, t1: u16, t2: u16, found: 
 
 // Whether t1 and t2 are an interval, the slack of which can be less than `reach` as far as the top of the ramps tells.
 fn is_near(subject: &Subject, ramps: &Ramps, reach: u32, t1: u16, t2: u16) -> bool
-    ensures { MatchBool result (IsInterval t1 t2) (IsInterval t1 t2 → ramps.now.top + reach ≤ subject.now.capacity * (t2 - t1)) }
+    ensures { MatchBool result (IsInterval t1 t2) (IsInterval t1 t2 → ramps.now.top + reach ≤ (sheet_in subject.now).capacity * (t2 - t1)) }
 {
     if t1 >= t2 || t2 > SLOTS {
         return false;
     }
-    let room = subject.capacity as u32 * (t2 - t1) as u32;
+    let room = u32::from(subject.movers.sheet.capacity) * u32::from(t2 - t1);
     room < ramps.top || room - ramps.top < reach
 }
 
@@ -83,10 +77,8 @@ pub(crate) fn visit(
     t2: u16,
     found: &mut Survey,
 )
-    requires known { Known subject.now }
     requires enough { Enough (sheet_in subject.now) t2 reach }
-    requires low { Low ramps.now }
-    requires energies { t1 < t2 → climbed ramps.now (t2 - t1) ≡ all_energy (sheet_in subject.now) t1 t2 }
+    requires energies { t1 < t2 → climbed ramps.now.slopes (t2 - t1) ≡ all_energy (sheet_in subject.now) t1 t2 }
     requires right { Right (sheet_in subject.now) found.old }
     requires candidate { IsInterval t1 t2 → Candidate (sheet_in subject.now) t1 t2 }
     ensures onward { Onward (sheet_in subject.now) found.old found.new }
@@ -107,10 +99,8 @@ pub(crate) fn visit_other(
     seen: u16,
     found: &mut Survey,
 )
-    requires known { Known subject.now }
     requires enough { Enough (sheet_in subject.now) t2 reach }
-    requires low { Low ramps.now }
-    requires energies { t1 < t2 → climbed ramps.now (t2 - t1) ≡ all_energy (sheet_in subject.now) t1 t2 }
+    requires energies { t1 < t2 → climbed ramps.now.slopes (t2 - t1) ≡ all_energy (sheet_in subject.now) t1 t2 }
     requires right { Right (sheet_in subject.now) found.old }
     requires candidate { IsInterval t1 t2 → Candidate (sheet_in subject.now) t1 t2 }
     requires seen { Accounted (sheet_in subject.now) found.old t1 seen }

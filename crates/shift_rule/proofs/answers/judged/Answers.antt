@@ -1,18 +1,17 @@
 -- One pass finds the evidence of S, and beside no evidence its earliest starts.
 use Rattle.std.proofs.Common.{◌∙◌}
-use Rattle.shift_rule.specs.Forced.{sheet_of}
+use Rattle.sheet.specs.Listed.{meant}
 use Rattle.shift_rule.proofs.Answered.{found_is_S, starts_are_S}
 use Rattle.shift_rule.proofs.answers.judged.Goals as goal
 
 pub returns-in-Some : goal.returns-in-Some
 returns-in-Some c =
-    let s = sheet_of c.args.capacity c.args.entries.now in
     let found = c.survey-found.ensures in
-    found_is_S s c.survey-found.result found.right found.accounted ∙ c.in-Some.is
+    found_is_S (meant c.args.sheet) c.survey-found.result found.right found.accounted ∙ c.in-Some.is
 
 pub returns-in-None : goal.returns-in-None
 returns-in-None c =
-    let s = sheet_of c.args.capacity c.args.entries.now in
+    let s = meant c.args.sheet in
     let found = c.survey-found.ensures in (
       found_is_S s c.survey-found.result found.right found.accounted ∙ c.in-None.is,
       starts_are_S s c.survey-found.result found.right found.accounted c.in-None.is,

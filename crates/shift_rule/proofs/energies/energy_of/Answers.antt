@@ -8,4 +8,4 @@ pub returns : goal.returns
 returns c =
     let e = c.args.e in
     let least : c.min-held.result ≡ held e c.args.t1 c.args.t2 = omega arith in
-    ap (λ (n : ℕ). e.demand * n) least ∙ sym (energy_is e c.args.t1 c.args.t2)
+    rw (c.from.ensures, c.from-2.ensures) (ap (λ (n : ℕ). e.demand * n) least ∙ sym (energy_is e c.args.t1 c.args.t2))

@@ -15,14 +15,14 @@ within e t1 t2 slack lack asks l h =
     let most : lack ≤ e.demand * extra = omega arith in
     omega (arith, ceiling_least lack e.demand extra asks most, early_after e t1 t2 l)
 
-ends : (c : goal.After-rounded_up) → c.args.t2 + c.rounded_up.result ≤ c.args.e.deadline
+ends : (c : goal.After-rounded_up) → c.from.result + c.rounded_up.result ≤ c.args.e.deadline
 ends c =
-    let most = within c.args.e c.args.t1 c.args.t2 c.args.slack c.lack_beside-lack.result c.requires.asks c.if-t2-e.false
-    c.lack_beside-lack.ensures in
-    omega (arith, c.rounded_up.ensures)
+    let most = within c.args.e c.args.t1 c.args.t2 c.args.slack c.lack_beside-lack.result c.requires c.if-t2-e.false c.lack_beside-lack.ensures in
+    let up : c.rounded_up.result ≡ ceiling c.lack_beside-lack.result c.args.e.demand = rw (← c.from-2.ensures) c.rounded_up.ensures in
+    omega (arith, c.from.ensures)
 
 pub overflow_add-end : goal.overflow_add-end
-overflow_add-end c = omega (arith, ends c, c.requires.within)
+overflow_add-end c = omega (arith, ends c)
 
-pub overflow_cast-end-2 : goal.overflow_cast-end-2
-overflow_cast-end-2 c = omega (arith, ends c, c.requires.within)
+pub overflow_cast-end : goal.overflow_cast-end
+overflow_cast-end c = omega (arith, ends c)

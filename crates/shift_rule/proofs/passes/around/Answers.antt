@@ -1,7 +1,7 @@
 -- Three starts and three ends, one after the other.
 use Rattle.std.proofs.Common.{◌+◌, ◌-◌, refl, inl, inr}
 use Rattle.model.specs.Sheets.{entry}
-use Rattle.shift_rule.specs.Leeways.{sheet_in}
+use Rattle.shift_rule.specs.Subjects.{sheet_in}
 use Rattle.shift_rule.specs.Found.{Accounted}
 use Rattle.shift_rule.proofs.Onward.{then, from_still, to_still}
 use Rattle.shift_rule.proofs.Made.{from_points}
@@ -10,8 +10,7 @@ use Rattle.shift_rule.proofs.passes.around.Goals as goal
 pub close-requires : goal.close-requires
 close-requires c =
     record {
-      known = c.requires.known;
-      enough = (c.requires.known.around c.args.place c.requires.place).deadline;
+      enough = (c.args.subject.now.known.around c.args.place c.requires.place).deadline;
       right = c.begin-3.ensures.onward.right;
       gone = c.begin-3.ensures.gone;
       point = (c.args.place, c.requires.place, inl refl);
@@ -20,8 +19,7 @@ close-requires c =
 pub close-requires-2 : goal.close-requires-2
 close-requires-2 c =
     record {
-      known = c.requires.known;
-      enough = (c.requires.known.around c.args.place c.requires.place).early_end;
+      enough = (c.args.subject.now.known.around c.args.place c.requires.place).early_end;
       right = c.close.ensures.onward.right;
       gone = c.close.ensures.gone;
       point = (c.args.place, c.requires.place, inr (inl refl));
@@ -30,8 +28,7 @@ close-requires-2 c =
 pub close-requires-3 : goal.close-requires-3
 close-requires-3 c =
     record {
-      known = c.requires.known;
-      enough = (c.requires.known.around c.args.place c.requires.place).late_start;
+      enough = (c.args.subject.now.known.around c.args.place c.requires.place).late_start;
       right = c.close-2.ensures.onward.right;
       gone = c.close-2.ensures.gone;
       point = (c.args.place, c.requires.place, inr (inr refl));

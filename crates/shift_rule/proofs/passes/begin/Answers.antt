@@ -1,5 +1,5 @@
 -- A point that is marked is accounted for, and one that is gone through is marked.
-use Rattle.shift_rule.specs.Leeways.{sheet_in}
+use Rattle.shift_rule.specs.Subjects.{sheet_in}
 use Rattle.shift_rule.specs.Found.{AccountedFrom, AccountedTo}
 use Rattle.shift_rule.proofs.Onward.{from_still, to_still}
 use Rattle.shift_rule.proofs.Gone.{marks_still, marks_more}

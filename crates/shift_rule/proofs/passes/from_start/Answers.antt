@@ -1,15 +1,12 @@
 -- One entry more.
-use Rattle.std.proofs.Common.{arith, below_more}
+use Rattle.std.proofs.Common.{refl, arith, below_more}
 use Rattle.model.specs.Sheets.{entry}
 use Rattle.shift.specs.Meaning.{from_start}
 use Rattle.shift.proofs.Listed.{start_made}
-use Rattle.shift_rule.specs.Leeways.{sheet_in}
+use Rattle.shift_rule.specs.Subjects.{sheet_in}
 use Rattle.shift_rule.specs.Found.{AllAccounted}
 use Rattle.shift_rule.proofs.Onward.{still, then, all_still}
 use Rattle.shift_rule.proofs.passes.from_start.Goals as goal
-
-pub ramps_from-ramps-requires : goal.ramps_from-ramps-requires
-ramps_from-ramps-requires c = c.requires.known.sound
 
 pub loop-place-init : goal.loop-place-init
 loop-place-init c =
@@ -21,9 +18,7 @@ from_to-requires c =
     let s = sheet_in c.args.subject.now in
     let i = c.loop-place.place in
     record {
-      known = c.requires.known;
-      low = c.ramps_from-ramps.ensures.low;
-      energies = c.ramps_from-ramps.ensures.energies;
+      energies = λ t2 l. c.ramps-ramps.ensures c.args.t1 t2 refl l;
       place = c.loop-place-test.true;
       right = c.loop-place.invariant.0.right;
       candidates = start_made s c.args.t1 c.requires.point i c.loop-place-test.true;

@@ -2,7 +2,7 @@
 use Rattle.std.proofs.Common.{ℕ, ◌<◌}
 use Rattle.model.specs.Sheets.{entry}
 use Rattle.shift.specs.Meaning.{from_start}
-use Rattle.shift_rule.specs.Leeways.{sheet_in}
+use Rattle.shift_rule.specs.Subjects.{sheet_in}
 use Rattle.shift_rule.specs.Found.{Onward, AllAccounted}
 use Rattle.shift_rule.proofs.passes.from_start.Given as goal
 

@@ -2,7 +2,7 @@
 use Rattle.std.proofs.Common.{ℕ, ◌+◌, ◌-◌, sym, subst}
 use Rattle.model.specs.Sheets.{entry}
 use Rattle.model.specs.Energy.{IsInterval, Candidate}
-use Rattle.shift_rule.specs.Leeways.{sheet_in}
+use Rattle.shift_rule.specs.Subjects.{sheet_in}
 use Rattle.shift_rule.specs.Found.{Accounted}
 use Rattle.shift_rule.proofs.Onward.{then, accounted_still}
 use Rattle.shift_rule.proofs.passes.from_to.Goals as goal
@@ -10,9 +10,7 @@ use Rattle.shift_rule.proofs.passes.from_to.Goals as goal
 pub visit-requires : goal.visit-requires
 visit-requires c =
     record {
-      known = c.requires.known;
-      enough = (c.requires.known.around c.args.place c.requires.place).deadline;
-      low = c.requires.low;
+      enough = (c.args.subject.now.known.around c.args.place c.requires.place).deadline;
       energies = c.requires.energies _;
       right = c.requires.right;
       candidate = c.requires.candidates.0;
@@ -21,9 +19,7 @@ visit-requires c =
 pub visit_other-requires : goal.visit_other-requires
 visit_other-requires c =
     record {
-      known = c.requires.known;
-      enough = (c.requires.known.around c.args.place c.requires.place).early_end;
-      low = c.requires.low;
+      enough = (c.args.subject.now.known.around c.args.place c.requires.place).early_end;
       energies = c.requires.energies _;
       right = c.visit.ensures.onward.right;
       candidate = c.requires.candidates.1.0;
@@ -33,9 +29,7 @@ visit_other-requires c =
 pub visit-requires-2 : goal.visit-requires-2
 visit-requires-2 c =
     record {
-      known = c.requires.known;
-      enough = (c.requires.known.around c.args.place c.requires.place).late_start;
-      low = c.requires.low;
+      enough = (c.args.subject.now.known.around c.args.place c.requires.place).late_start;
       energies = c.requires.energies _;
       right = c.visit_other.ensures.onward.right;
       candidate = c.requires.candidates.1.1.0;
@@ -46,9 +40,7 @@ visit-requires-3 c =
     let s = sheet_in c.args.subject.now in
     let is = c.saturating_sub-opposite.ensures in
     record {
-      known = c.requires.known;
-      enough = c.requires.known.anywhere _;
-      low = c.requires.low;
+      enough = c.args.subject.now.known.anywhere _;
       energies = c.requires.energies _;
       right = c.visit-2.ensures.onward.right;
       candidate = subst (λ (t : ℕ). IsInterval c.args.t1 t → Candidate s c.args.t1 t) (sym is) c.requires.candidates.1.1.1.0;

@@ -2,7 +2,7 @@
 use Rattle.std.proofs.Common.{arith, below_more}
 use Rattle.model.specs.Sheets.{entry}
 use Rattle.shift.specs.Meaning.{made_by}
-use Rattle.shift_rule.specs.Leeways.{sheet_in}
+use Rattle.shift_rule.specs.Subjects.{sheet_in}
 use Rattle.shift_rule.specs.Found.{AccountedAround}
 use Rattle.shift_rule.proofs.Onward.{all_still}
 use Rattle.shift_rule.proofs.Answered.{right_before}
@@ -12,7 +12,7 @@ use Rattle.shift_rule.proofs.passes.go_through.Goals as goal
 pub loop-i-init : goal.loop-i-init
 loop-i-init c =
     let s = sheet_in c.args.subject.now in
-    (right_before s c.releases.result c.releases.ensures.places c.releases.ensures.each, record { begun = marks_none _; closed = marks_none _ }, λ i l. absurd (omega arith))
+    (right_before s c.releases.result (omega (arith, c.releases.type_inv)) c.releases.ensures, record { begun = marks_none _; closed = marks_none _ }, λ i l. absurd (omega arith))
 
 pub loop-i-preserved : goal.loop-i-preserved
 loop-i-preserved c =

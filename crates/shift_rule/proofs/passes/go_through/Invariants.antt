@@ -1,6 +1,6 @@
 -- What was found is right, what is marked is gone through, and what the entries before i make with all entries is accounted for.
 use Rattle.std.proofs.Common.{ℕ, ◌<◌}
-use Rattle.shift_rule.specs.Leeways.{sheet_in}
+use Rattle.shift_rule.specs.Subjects.{sheet_in}
 use Rattle.shift_rule.specs.Found.{Right, AccountedAround}
 use Rattle.shift_rule.specs.Points.{GoneThrough}
 use Rattle.shift_rule.proofs.passes.go_through.Given as goal

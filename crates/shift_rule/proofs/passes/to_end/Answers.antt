@@ -1,15 +1,12 @@
 -- One entry more.
-use Rattle.std.proofs.Common.{arith, below_more}
+use Rattle.std.proofs.Common.{refl, arith, below_more}
 use Rattle.model.specs.Sheets.{entry}
 use Rattle.shift.specs.Meaning.{to_end}
 use Rattle.shift.proofs.Listed.{end_made}
-use Rattle.shift_rule.specs.Leeways.{sheet_in}
+use Rattle.shift_rule.specs.Subjects.{sheet_in}
 use Rattle.shift_rule.specs.Found.{Accounted}
 use Rattle.shift_rule.proofs.Onward.{still, then, accounted_still}
 use Rattle.shift_rule.proofs.passes.to_end.Goals as goal
-
-pub ramps_to-ramps-requires : goal.ramps_to-ramps-requires
-ramps_to-ramps-requires c = c.requires.known.sound
 
 pub loop-e-init : goal.loop-e-init
 loop-e-init c =
@@ -21,11 +18,9 @@ to_from-requires c =
     let s = sheet_in c.args.subject.now in
     let i = c.loop-e.e-index in
     record {
-      known = c.requires.known;
       enough = c.requires.enough;
-      low = c.ramps_to-ramps.ensures.low;
-      energies = c.ramps_to-ramps.ensures.energies;
-      fine = c.requires.known.sound.each i c.loop-e-test.true;
+      energies = λ t1 l. c.ramps-ramps.ensures t1 c.args.t2 refl l;
+      fine = let e = c.args.subject.now.movers.sheet.sound.each i c.loop-e-test.true in (omega (arith, e.room, e.within), e.within);
       right = c.loop-e.invariant.0.right;
       candidate = end_made s c.args.t2 c.requires.point i c.loop-e-test.true;
     }

@@ -2,7 +2,7 @@
 use Rattle.std.proofs.Common.{ℕ, ◌<◌}
 use Rattle.model.specs.Sheets.{entry}
 use Rattle.shift.specs.Meaning.{to_end}
-use Rattle.shift_rule.specs.Leeways.{sheet_in}
+use Rattle.shift_rule.specs.Subjects.{sheet_in}
 use Rattle.shift_rule.specs.Found.{Onward, Accounted}
 use Rattle.shift_rule.proofs.passes.to_end.Given as goal
 

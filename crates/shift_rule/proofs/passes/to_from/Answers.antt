@@ -1,7 +1,7 @@
 -- The partner of the end is its start.
 use Rattle.std.proofs.Common.{ℕ, sym, subst}
 use Rattle.model.specs.Energy.{IsInterval, Candidate}
-use Rattle.shift_rule.specs.Leeways.{sheet_in}
+use Rattle.shift_rule.specs.Subjects.{sheet_in}
 use Rattle.shift_rule.specs.Found.{Accounted}
 use Rattle.shift_rule.proofs.passes.to_from.Goals as goal
 
@@ -10,9 +10,7 @@ visit-requires c =
     let s = sheet_in c.args.subject.now in
     let t2 = c.args.t2 in
     record {
-      known = c.requires.known;
       enough = c.requires.enough;
-      low = c.requires.low;
       energies = c.requires.energies _;
       right = c.requires.right;
       candidate = subst (λ (t : ℕ). IsInterval t t2 → Candidate s t t2) (sym c.partner-t1.ensures) c.requires.candidate;

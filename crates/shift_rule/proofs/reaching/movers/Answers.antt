@@ -1,39 +1,34 @@
 -- One entry more has a slot to spare, or has none.
-use Rattle.std.proofs.Common.{◌≡◌, ℕ, ◌+◌, ◌<◌, length, get_or, sym, refl, ◌∙◌, subst, arith, length-set}
-use Rattle.model.specs.Sheets.{blank, rows_max}
-use Rattle.shift_rule.specs.declared.leeways.Movers.{Movers}
-use Rattle.shift_rule.proofs.Listing.{Listed, listed_none, listed_more, listed_still}
+use Rattle.std.proofs.Common.{ℕ, arith}
+use Rattle.model.specs.Sheets.{entry}
+use Rattle.sheet.specs.Listed.{meant}
+use Rattle.shift_rule.specs.Leeways.{Spares}
+use Rattle.shift_rule.proofs.Listing.{listed_none, listed_more, listed_still}
 use Rattle.shift_rule.proofs.reaching.movers.Goals as goal
-use Rattle.shift_rule.proofs.reaching.movers.Goals.{then-entries-k, else-entries-k}
+use Rattle.shift_rule.proofs.reaching.movers.Goals.{then-e, else-e}
 
-pub loop-k-preserved : goal.loop-k-preserved
-loop-k-preserved c =
-    let es = c.args.entries.now in
-    let spares = λ (j : ℕ). (get_or es j blank).release + (get_or es j blank).duration < (get_or es j blank).deadline in
-    let k = c.loop-k.k in
-    let m = c.loop-k.movers in
-    let (many, old) = c.loop-k.invariant in
-    elim c.if-entries-k.branch [
-      | then-entries-k w ↦
-          let room : m.count < length m.places = omega (arith, old.few, c.loop-k-test.true, c.requires.few) in
-          subst (λ (n : Movers). (length n.places ≡ rows_max) × Listed spares n.places n.count (k + 1)) (sym w.movers-is)
-          (length-set m.places m.count k ∙ many, listed_more spares m.places m.count k old room)
-      | else-entries-k w ↦
-          subst (λ (n : Movers). (length n.places ≡ rows_max) × Listed spares n.places n.count (k + 1)) (sym w.movers-is)
-          (many, listed_still spares m.places m.count k old (λ less. absurd (omega (arith, w.if-entries-k.false))))
+pub loop-place-init : goal.loop-place-init
+loop-place-init c = rw c.new-places.ensures (listed_none (λ j. Spares (entry (meant c.args.sheet) j)))
+
+pub push-requires : goal.push-requires
+push-requires c = omega (arith, c.loop-place.invariant.few, c.args.sheet.sound.few)
+
+pub loop-place-preserved : goal.loop-place-preserved
+loop-place-preserved c =
+    let spares = λ (j : ℕ). Spares (entry (meant c.args.sheet) j) in
+    let k = c.loop-place.place in
+    let old = c.loop-place.invariant in
+    elim c.if-e.branch [
+      | then-e w ↦ rw (w.places-is, w.push.ensures.items) (listed_more spares c.loop-place.places.items k old)
+      | else-e w ↦ rw (w.places-is) (listed_still spares c.loop-place.places.items k old (λ less. absurd (omega (arith, w.if-e.false))))
     ]
 
-pub loop-k-init : goal.loop-k-init
-loop-k-init c =
-    let es = c.args.entries.now in
-    (refl, listed_none (λ (j : ℕ). (get_or es j blank).release + (get_or es j blank).duration < (get_or es j blank).deadline) _)
-
-pub returns : goal.returns
-returns c =
-    let (many, all) = c.loop-k.invariant in
+pub invariant_of-result : goal.invariant_of-result
+invariant_of-result c =
+    let all = c.loop-place.invariant in
     record {
-      few = omega (arith, all.few, c.loop-k.auto.k-end, c.requires.few);
-      places = many;
-      inside = λ q l. omega (arith, all.below q l, c.loop-k.auto.k-end);
-      each = λ k l spare. all.each k (omega (arith, c.loop-k-test.false)) spare;
+      listed = record {
+        inside = λ q l. omega (arith, all.below q l);
+        each = λ k l spare. ∣ all.each k (omega arith) spare ∣₁;
+      };
     }

@@ -1,6 +1,6 @@
 -- An interval that is accounted for is accounted for under its other name too.
 use Rattle.std.proofs.Common.{ℕ, sym, subst}
-use Rattle.shift_rule.specs.Leeways.{sheet_in}
+use Rattle.shift_rule.specs.Subjects.{sheet_in}
 use Rattle.shift_rule.specs.Found.{Accounted}
 use Rattle.shift_rule.proofs.Onward.{still}
 use Rattle.shift_rule.proofs.Passed.{passed_by}
@@ -19,9 +19,7 @@ pub weigh-requires : goal.weigh-requires
 weigh-requires c =
     let is = rw c.if-is_near.true at c.is_near.ensures in
     record {
-      known = c.requires.known;
       enough = c.requires.enough;
-      low = c.requires.low;
       energies = c.requires.energies is.ordered;
       right = c.requires.right;
       candidate = c.requires.candidate is;
@@ -33,6 +31,6 @@ returns-else-is_near c =
     let v = c.args.found.now in
     record {
       onward = still s v c.requires.right;
-      accounted = passed_by s c.requires.known.sound v c.requires.right c.args.ramps.now c.requires.low c.args.reach c.args.t1 c.args.t2
+      accounted = passed_by s c.args.subject.now.movers.sheet.sound v c.requires.right c.args.ramps.now.slopes c.args.ramps.now.top c.args.ramps.now.low c.args.reach c.args.t1 c.args.t2
           c.requires.enough c.requires.energies c.requires.candidate (rw c.if-is_near.false at c.is_near.ensures);
     }

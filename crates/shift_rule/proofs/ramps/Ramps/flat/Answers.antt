@@ -1,7 +1,7 @@
 -- Nothing climbs where there is no ramp.
 use Rattle.std.proofs.Common.{◌≡◌, ℕ, zero, suc, List, get_or, replicate, refl}
 use Rattle.shift_rule.proofs.Climbing.{low_none}
-use Rattle.shift_rule.proofs.climbs.flat.Goals as goal
+use Rattle.shift_rule.proofs.ramps.Ramps.flat.Goals as goal
 
 zeros : List ℕ
 zeros = replicate 64 0
@@ -11,10 +11,7 @@ nothing zero k = refl
 nothing (suc n) zero = refl
 nothing (suc n) (suc k) = nothing n k
 
-pub returns : goal.returns
+pub invariant_of-result : goal.invariant_of-result
 unfolding zeros
-returns c =
-    record {
-      low = low_none (record { count = 0; top = 0; offsets = zeros; lengths = zeros; demands = zeros }) refl (refl, refl, refl) refl (nothing 64);
-      none = refl;
-    }
+invariant_of-result c =
+    record { low = low_none (record { count = 0; offsets = zeros; lengths = zeros; demands = zeros }) refl (refl, refl, refl) (nothing 64) }
