@@ -30,7 +30,7 @@ fn asked(fields: Fields) -> Test
 }
 
 // Reads the record that comes next, which has the given number, and enters it if it is a test.
-// kept: one struct for board and reader is no plainer, since it would hold a &mut, and each clause would say self.old.board.now for board.old.
+// kept: one struct for board and reader was tried, and the proof did not close: no rule yet covers a struct that holds a &mut Board where the header is read.
 fn enter_record(board: &mut Board, reader: &mut Reader, number: u32) -> Result<(), Fault>
     ensures { MatchResult result (λ _. Booked (spot reader.old) (bookings board.old) (spot reader.new) (bookings board.new)) (λ f. BadRecord number (spot reader.old) (bookings board.old) f) }
 {
