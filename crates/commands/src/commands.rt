@@ -20,7 +20,7 @@ pub enum Command {
 }
 
 // A line is passed over, or says a command, or is neither.
-// kept: three cases with names are plainer than a `Result<Option<Command>, Unknown>`, and `read` has no second step that would end by `?`
+// kept: a `Result<Option<Command>, Unknown>` is no plainer, since it has no name for a line that is passed over
 #[derive(Clone, Copy)]
 pub enum Line {
     Nothing,
