@@ -23,9 +23,11 @@ impl<'a> Queue<'a> {
     {
         let levels = self.levels(self.sheet.entries[j].deadline);
         let mut highest: u32 = 0;
+        // kept: the loop writes what was found at k, and of what is written through a zip nothing is known afterwards
         for k in 0..self.sheet.entries.len() {
-            highest = highest.max(levels[k]);
-            found.first = self.tried(k, j, levels[k], found.first);
+            let level = levels[k];
+            highest = highest.max(level);
+            found.first = self.tried(k, j, level, found.first);
             found.ends[k] = self.pushed(k, j, highest, found.ends[k]);
         }
     }
