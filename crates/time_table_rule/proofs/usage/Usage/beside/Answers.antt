@@ -7,7 +7,6 @@ use Rattle.timetable.proofs.RuleT.{usage_split}
 use Rattle.sheet.specs.Listed.{meant}
 use Rattle.time_table_rule.proofs.Rooms.{used_small}
 use Rattle.time_table_rule.proofs.usage.Usage.beside.Goals as goal
-use Rattle.time_table_rule.proofs.usage.Usage.beside.Goals.{else-t-e-via-then-t-e+else-t-e-2, else-t-e-via-else-t-e}
 
 pub overflow_add-result : goal.overflow_add-result
 overflow_add-result c =
@@ -23,16 +22,4 @@ returns-then-t-e-2 c =
     let s = meant u.sheet in
     let t = c.args.t in
     let own : fixed_at t (entry s c.args.place) ≡ (entry s c.args.place).demand = grind (arith, nat_tests) in
-    rw c.from.ensures (omega (arith, u.used.each t c.requires.1, usage_split s c.args.place t c.requires.0, own))
-
-pub returns-else-t-e : goal.returns-else-t-e
-returns-else-t-e c =
-    let u = c.args.self.now in
-    let s = meant u.sheet in
-    let t = c.args.t in
-    let own : fixed_at t (entry s c.args.place) ≡ 0 =
-    elim c.else-t-e.branch [
-      | else-t-e-via-then-t-e+else-t-e-2 w ↦ grind (arith, nat_tests)
-      | else-t-e-via-else-t-e w ↦ grind (arith, nat_tests)
-    ] in
     rw c.from.ensures (omega (arith, u.used.each t c.requires.1, usage_split s c.args.place t c.requires.0, own))
