@@ -23,7 +23,7 @@ impl<'a> Queue<'a> {
     {
         let levels = self.levels(self.sheet.entries[j].deadline);
         let mut highest: u32 = 0;
-        // kept: the loop writes what was found at k, and of what is written through a zip nothing is known afterwards
+        // kept: a zip of the levels and the ends would need the place beside them, and a cut at the count, so it would be no plainer
         for k in 0..self.sheet.entries.len() {
             let level = levels[k];
             highest = highest.max(level);
