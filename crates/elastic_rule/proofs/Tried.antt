@@ -32,10 +32,6 @@ named_sooner P i (Some f) named =
     (λ e. named_after P i.t1 i.t2 f named (not_earlier i f e))
 
 module _ (s : Sheet) where
-  -- nothing was tried
-  pub tried_none : Named (Tried s 0 0) None
-  tried_none t1 t2 t = elim t.tried [ inl l ↦ omega arith | inr l ↦ omega arith ]
-
   module _ (n m : ℕ) (ln : n < count s) (lm : m < count s) (o : Option Interval) (named : Named (Tried s n m) o) where
     -- one pair more, which is overfull
     pub tried_over : (i : Interval) → OverfullBetween s m n i.t1 i.t2 → Named (Tried s n (m + 1)) (Some (sooner o i))

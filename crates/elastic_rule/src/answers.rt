@@ -5,9 +5,8 @@ ghost use Rattle.elastic.specs.Meaning.{meaning_E};
 ghost use Rattle.sheet.specs.Listed.{meant};
 ghost use Rattle.elastic_rule.specs.Judged.{Judged};
 
-use crate::orders::{arranged, by_release};
+use crate::orders::Order;
 use crate::queues::Queue;
-use crate::starts::before;
 use model::intervals::Interval;
 use model::limits::ROWS_MAX;
 use sheet::lists::Listed;
@@ -16,8 +15,8 @@ use sheet::lists::Listed;
 pub(crate) fn judged(sheet: Listed<'_>) -> Result<[u16; ROWS_MAX], Interval>
     ensures { Judged (meant sheet.entry) result }
 {
-    let order = by_release(sheet);
-    let rows = arranged(sheet, order.as_slice());
+    let order = Order::of(sheet);
+    let rows = order.arranged();
     let queue = Queue {
         sheet: Listed {
             capacity: sheet.capacity,
@@ -27,7 +26,7 @@ pub(crate) fn judged(sheet: Listed<'_>) -> Result<[u16; ROWS_MAX], Interval>
     let found = queue.whole_pass();
     match found.first {
         Some(first) => Err(first),
-        None => Ok(before(sheet, order.as_slice(), &found.ends)),
+        None => Ok(order.starts(&found.ends)),
     }
 }
 

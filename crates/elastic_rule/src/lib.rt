@@ -10,4 +10,3 @@ mod passes;
 mod pushes;
 mod queues;
 pub mod rule;
-mod starts;

@@ -23,9 +23,11 @@ impl<'a> Queue<'a> {
     {
         let levels = self.levels(self.sheet.entries[j].deadline);
         let mut highest: u32 = 0;
+        // kept: a zip of the levels and the ends would need the place beside them, and a cut at the count, so it would be no plainer
         for k in 0..self.sheet.entries.len() {
-            highest = highest.max(levels[k]);
-            found.first = self.tried(k, j, levels[k], found.first);
+            let level = levels[k];
+            highest = highest.max(level);
+            found.first = self.tried(k, j, level, found.first);
             found.ends[k] = self.pushed(k, j, highest, found.ends[k]);
         }
     }

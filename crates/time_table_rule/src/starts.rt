@@ -1,28 +1,28 @@
 // The first room of each entry.
-ghost use Rattle.std.specs.Prelude.{◌≡◌, ℕ, ◌+◌, ◌<◌, ◌⊎◌, Some as Found, slice_index};
-ghost use Rattle.model.specs.Sheets.{count, entry, horizon};
-ghost use Rattle.model.specs.TimeTable.{usage_of_others, FirstRoom, NoRoom};
+ghost use Rattle.std.specs.Prelude.{◌≡◌, ℕ, ◌+◌, ◌-◌, ◌<◌, ◌≤◌, ◌⊎◌, Some as Found, slice_index};
+ghost use Rattle.model.specs.Sheets.{count};
+ghost use Rattle.model.specs.TimeTable.{fixed_at, FirstRoom, NoRoom};
 ghost use Rattle.timetable.specs.Meaning.{meaning_T};
 ghost use Rattle.sheet.specs.Listed.{meant};
 
 use crate::usage::Usage;
+use model::entries::Entry;
 use model::limits::ROWS_MAX;
 
-impl<'a> Usage<'a> {
-    // What slot t holds where the entry at a place runs in it beside the fixed parts of the others: in its own fixed part it is counted already.
-    fn beside(&self, place: usize, t: u16) -> u32
-        requires { (place < count (meant self.now.sheet)) × (t < horizon) }
-        ensures { result ≡ usage_of_others (meant self.now.sheet) place t + (entry (meant self.now.sheet) place).demand }
-    {
-        let e = self.sheet.entries[place];
-        let usage = self.line[usize::from(t)];
-        if t >= e.deadline - e.duration && t < e.release + e.duration {
-            usage
-        } else {
-            usage + u32::from(e.demand)
-        }
+// What slot t holds where an entry runs in it beside the fixed parts of the others: in its own fixed part it is counted already.
+// kept: tried as a method of Usage that reads the entry and the line itself, and it misses the bar of speed: the rule takes 1.3 times as long.
+fn beside(e: Entry, t: u16, usage: u32) -> u32
+    requires { (e.release + e.duration ≤ e.deadline) × ((fixed_at t e ≤ usage) × (usage + e.demand < 4294967296)) }
+    ensures { result ≡ (usage - fixed_at t e) + e.demand }
+{
+    if t >= e.deadline - e.duration && t < e.release + e.duration {
+        usage
+    } else {
+        usage + u32::from(e.demand)
     }
+}
 
+impl<'a> Usage<'a> {
     // The smallest start with room for the entry at a place; where none has room, the one past its last start.
     // A slot without room moves the start past it, so that the window is gone through once.
     fn first_room(&self, place: usize) -> u16
@@ -37,7 +37,7 @@ impl<'a> Usage<'a> {
             if t >= from + e.duration {
                 return from;
             }
-            if self.beside(place, t) > u32::from(self.sheet.capacity) {
+            if beside(e, t, self.line[usize::from(t)]) > u32::from(self.sheet.capacity) {
                 if t >= last {
                     return last + 1;
                 }

@@ -1,5 +1,5 @@
 -- The sum of what ends by t2 is the work inside.
-use Rattle.std.proofs.Common.{◌≡◌, ℕ, ◌<◌, rules, sym, arith}
+use Rattle.std.proofs.Common.{◌≡◌, ◌<◌, rules, sym, arith}
 use Rattle.std.specs.List.{sum_by}
 use Rattle.model.specs.Sheets.{blank}
 use Rattle.model.specs.Energy.{work_inside, work_in}

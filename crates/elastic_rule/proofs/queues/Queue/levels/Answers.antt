@@ -49,6 +49,3 @@ loop-place-preserved c =
     c.loop-place.release c.loop-place.inside c.loop-place.rest c.loop-place-test.true c.loop-place.invariant
     (c.from-capacity.result * c.from.result + c.if-e-release.inside) c.if-e-release.inside (c.loop-place.rest - c.work_by-rest.result)
     c.args.self.now.sheet.sound.few now (ap (λ (n : ℕ). n + c.if-e-release.inside) own) (ap (λ (w : ℕ). c.loop-place.rest - w) c.work_by-rest.ensures)
-
-pub returns : goal.returns
-returns c = λ k l. c.loop-place.invariant.stand k (omega arith)

@@ -1,6 +1,6 @@
 -- What is judged of the listed entries is judged of the sheet.
-use Rattle.std.proofs.Common.{◌≡◌, ℕ, ◌<◌, List, get_or, IfOk, Some, None, Ok, Err, Result, ap, ◌∙◌, subst, MatchResult}
-use Rattle.model.specs.Sheets.{Sheet, count}
+use Rattle.std.proofs.Common.{◌≡◌, ℕ, List, Some, None, Ok, Err, Result, ap, ◌∙◌, subst, MatchResult}
+use Rattle.model.specs.Sheets.{Sheet}
 use Rattle.rules.specs.declared.slots.Slot.{Slot}
 use Rattle.timetable.specs.Meaning.{meaning_T}
 use Rattle.timetable.proofs.RuleT.{evidence_is_T}
@@ -17,13 +17,12 @@ module _ (s : Sheet) where
   tells (Ok x) h = evidence_is_T s None h.0
   tells (Err f) h = evidence_is_T s (Some (told f)) h
 
-  starts : (r : Result (List ℕ) Slot) → Judged s r → IfOk r (λ x. (k : ℕ) → k < count s → meaning_T.earliest s k ≡ Some (get_or x k 0))
-  starts (Ok x) h = h.1
-  starts (Err f) h = tt
+pub returns-clause-value : goal.returns-clause-value
+returns-clause-value g c =
+    let h = subst (λ (x : Sheet). Judged x c.judged.result) (c.lend.ensures ∙ c.list.ensures.sheet) c.judged.ensures in
+    value (g.S.Sheet.meaning c.args.sheet.now) c.judged.result h
 
-pub returns : goal.returns
-returns g c =
-    let s = g.S.Sheet.meaning c.args.sheet.now in
-    let r = c.judged.result in
-    let h = subst (λ (x : Sheet). Judged x r) (c.lend.ensures ∙ c.list.ensures.sheet) c.judged.ensures in
-    record { value = value s r h; told = tells s r h; starts = starts s r h }
+pub returns-clause-told : goal.returns-clause-told
+returns-clause-told g c =
+    let h = subst (λ (x : Sheet). Judged x c.judged.result) (c.lend.ensures ∙ c.list.ensures.sheet) c.judged.ensures in
+    tells (g.S.Sheet.meaning c.args.sheet.now) c.judged.result h
