@@ -3,7 +3,6 @@ ghost use Rattle.std.specs.Prelude.{◌≡◌, ℕ, ◌+◌, ◌<◌, ◌≤◌,
 ghost use Rattle.model.specs.Sheets.{count, entry, rows_max};
 ghost use Rattle.sheet.specs.Listed.{meant};
 ghost use Rattle.shift_rule.specs.Leeways.{leeway as leeway_of, Enough, EnoughAround, no_reach};
-ghost use Rattle.shift_rule.specs.Subjects.{sheet_in};
 
 use crate::energies::right_part;
 use crate::leeways::Reach;
@@ -96,7 +95,7 @@ impl<'a> Movers<'a> {
 
 // A sheet, with how far its entries can be moved.
 pub(crate) fn subject(sheet: Listed<'_>) -> Subject<'_>
-    ensures { sheet_in result ≡ meant sheet.entry }
+    ensures { meant result.movers.sheet ≡ meant sheet.entry }
 {
     let movers = movers(sheet);
     let reaches = movers.reaches();

@@ -11,7 +11,8 @@ pub struct Ramp {
 }
 
 // Ramps, of which the first `count` places have one.
-// kept: three arrays side by side, so that eight demands, offsets and lengths at a time can be added.
+// kept: tried as one array of ramps, and it misses the bar of speed, since eight ramps at a time are added only from arrays side by
+// side: a sum over 60 ramps took 1.9 times as many instructions.
 #[derive(Drop)]
 pub struct Slopes {
     pub(crate) count: usize,
