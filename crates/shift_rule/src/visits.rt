@@ -38,7 +38,9 @@ fn raise(movers: &Movers, t1: u16, t2: u16, slack: u32, starts: &mut [u16])
 }
 
 impl<'s, 'a> Pass<'s, 'a> {
-    // Accounts for a candidate by ramps that have its energies; `reach` is as much slack as moves no entry.
+    // Accounts for a candidate by ramps that have its energies; `reach` is as much slack as moves no entry. It is apart from `visit`, which
+    // passes most intervals by and is short enough to stand where it is called.
+    #[inline(never)]
     fn weigh(&mut self, ramps: &Ramps, reach: u32, t1: u16, t2: u16)
         requires interval { IsInterval t1 t2 }
         requires known { Told (sheet_in self.old) ramps.now.slopes reach t1 t2 }
@@ -67,6 +69,7 @@ impl<'s, 'a> Pass<'s, 'a> {
     }
 
     // Accounts for t1 and t2, if they are an interval, by ramps that have its energies.
+    #[inline(always)]
     pub(crate) fn visit(&mut self, ramps: &Ramps, reach: u32, t1: u16, t2: u16)
         requires { Told (sheet_in self.old) ramps.now.slopes reach t1 t2 }
         ensures onward { Onward self.old self.new }
