@@ -1,9 +1,8 @@
 // Energy sums of all intervals that share an end, from ramps made once.
 ghost use Rattle.std.specs.Prelude.{◌≡◌, ℕ, ◌+◌, ◌-◌, ◌*◌, ◌<◌, ◌≤◌};
 ghost use Rattle.model.specs.Sheets.{rows_max};
-ghost use Rattle.model.specs.Energy.{energy};
 ghost use Rattle.sheet.specs.Listed.{meant};
-ghost use Rattle.shift_rule.specs.Ramps.{rise, climbed as on_ramps};
+ghost use Rattle.shift_rule.specs.Ramps.{rise, Energies, climbed as on_ramps};
 
 use crate::ramps::Ramps;
 use crate::sides::Side;
@@ -50,6 +49,7 @@ impl Ramps {
     pub(crate) fn climbed(&self, far: u16) -> u32
         ensures { result ≡ on_ramps self.now.slopes far }
     {
+        // kept: a chain over three arrays side by side, that goes on in whole groups, is no plainer.
         let slopes = &self.slopes;
         let mut sum: u32 = 0;
         for k in 0..(slopes.count + 7) / 8 * 8 {
@@ -62,7 +62,7 @@ impl Ramps {
 
 // The ramps of the intervals that have a side in common.
 pub(crate) fn ramps<S: Side>(sheet: Listed<'_>, side: &S) -> Ramps
-    ensures { (t1 t2 : ℕ) → S.has side.now t1 t2 → t1 < t2 → on_ramps result.slopes (t2 - t1) ≡ energy (meant sheet.entry) t1 t2 }
+    ensures { Energies (S.has side.now) (meant sheet.entry) result.slopes }
 {
     let mut ramps = Ramps::flat();
     for e in sheet.entries {

@@ -8,9 +8,9 @@ use Rattle.shift_rule.proofs.pass.Pass.begin.Goals as goal
 pub invariant_of-self : goal.invariant_of-self
 invariant_of-self c =
     let p = c.args.self.now in
-    let q = c.from_start.new.self in
+    let q = c.along.new.self in
     let t = c.args.t1 in
-    let here = onto p q (λ s. AccountedFrom s q.found t) c.from_start.ensures.onward c.from_start.ensures.accounted in
+    let here = onto p q (λ s. AccountedFrom s q.found t) c.along.ensures.onward c.along.ensures.accounted in
     record { right = q.right; gone = gone_begun (sheet_in q) q.begun q.closed q.found q.gone c.add.new.self t c.add.ensures here }
 
 pub returns-else-not-has-clause-accounted : goal.returns-else-not-has-clause-accounted

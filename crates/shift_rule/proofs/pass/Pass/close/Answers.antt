@@ -8,9 +8,9 @@ use Rattle.shift_rule.proofs.pass.Pass.close.Goals as goal
 pub invariant_of-self : goal.invariant_of-self
 invariant_of-self c =
     let p = c.args.self.now in
-    let q = c.to_end.new.self in
+    let q = c.along.new.self in
     let t = c.args.t2 in
-    let here = onto p q (λ s. AccountedTo s q.found t) c.to_end.ensures.onward c.to_end.ensures.accounted in
+    let here = onto p q (λ s. AccountedTo s q.found t) c.along.ensures.onward (λ j l. (c.along.ensures.accounted j l).0) in
     record { right = q.right; gone = gone_closed (sheet_in q) q.begun q.closed q.found q.gone c.add.new.self t c.add.ensures here }
 
 pub returns-else-not-has-clause-accounted : goal.returns-else-not-has-clause-accounted

@@ -1,55 +1,56 @@
 -- Four intervals, one after the other.
-use Rattle.std.proofs.Common.{ℕ, ◌+◌, ◌-◌, get_or, sym, subst}
+use Rattle.std.proofs.Common.{ℕ, ◌+◌, ◌-◌, get_or, refl, sym, subst}
 use Rattle.model.specs.Sheets.{entry}
 use Rattle.model.specs.Energy.{IsInterval, Candidate}
+use Rattle.shift.proofs.Listed.{start_made}
 use Rattle.shift_rule.specs.Leeways.{no_reach}
 use Rattle.shift_rule.specs.Found.{Accounted}
 use Rattle.shift_rule.specs.Passes.{sheet_in, Told}
 use Rattle.shift_rule.proofs.Onward.{then, onto, back, kept}
-use Rattle.shift_rule.proofs.pass.Pass.from_to.Goals as goal
+use Rattle.shift_rule.proofs.sides.StartSide.account.Goals as goal
 
 pub visit-requires : goal.visit-requires
 visit-requires c =
     record {
-      enough = (c.args.self.now.subject.now.known.around c.args.place c.requires.place).deadline;
-      energies = c.requires.energies _;
-      candidate = c.requires.candidates.0;
+      enough = (c.args.pass.now.subject.now.known.around c.args.place c.requires.place).deadline;
+      energies = λ l. c.requires.energies _ _ refl l;
+      candidate = (start_made (sheet_in c.args.pass.now) c.args.self.now.at c.requires.fits c.args.place c.requires.place).0;
     }
 
 pub visit_other-requires : goal.visit_other-requires
 visit_other-requires c =
-    let p = c.args.self.now in
+    let p = c.args.pass.now in
     let e = entry (sheet_in p) c.args.place in
-    let t1 = c.args.t1 in
+    let t1 = c.args.self.now.at in
     let v1 = c.visit.new.self in
     let on1 = c.visit.ensures.onward in
     record {
       known = onto p v1 (λ s. Told s c.args.ramps.now.slopes (get_or p.subject.now.reaches c.args.place no_reach).early_end t1 (e.release + e.duration)) on1 (record {
         enough = (p.subject.now.known.around c.args.place c.requires.place).early_end;
-        energies = c.requires.energies _;
-        candidate = c.requires.candidates.1.0;
+        energies = λ l. c.requires.energies _ _ refl l;
+        candidate = (start_made (sheet_in c.args.pass.now) c.args.self.now.at c.requires.fits c.args.place c.requires.place).1.0;
       });
       seen = onto p v1 (λ s. Accounted s v1.found t1 e.deadline) on1 c.visit.ensures.accounted;
     }
 
 pub visit-requires-2 : goal.visit-requires-2
 visit-requires-2 c =
-    let p = c.args.self.now in
+    let p = c.args.pass.now in
     let e = entry (sheet_in p) c.args.place in
     let v1 = c.visit.new.self in
     let v2 = c.visit_other.new.self in
     let on2 = then p v1 v2 c.visit.ensures.onward c.visit_other.ensures.onward in
-    onto p v2 (λ s. Told s c.args.ramps.now.slopes (get_or p.subject.now.reaches c.args.place no_reach).late_start c.args.t1 (e.deadline - e.duration)) on2 (record {
+    onto p v2 (λ s. Told s c.args.ramps.now.slopes (get_or p.subject.now.reaches c.args.place no_reach).late_start c.args.self.now.at (e.deadline - e.duration)) on2 (record {
       enough = (p.subject.now.known.around c.args.place c.requires.place).late_start;
-      energies = c.requires.energies _;
-      candidate = c.requires.candidates.1.1.0;
+      energies = λ l. c.requires.energies _ _ refl l;
+      candidate = (start_made (sheet_in c.args.pass.now) c.args.self.now.at c.requires.fits c.args.place c.requires.place).1.1.0;
     })
 
 pub visit-requires-3 : goal.visit-requires-3
 visit-requires-3 c =
-    let p = c.args.self.now in
+    let p = c.args.pass.now in
     let s = sheet_in p in
-    let t1 = c.args.t1 in
+    let t1 = c.args.self.now.at in
     let v1 = c.visit.new.self in
     let v2 = c.visit_other.new.self in
     let v3 = c.visit-2.new.self in
@@ -57,16 +58,16 @@ visit-requires-3 c =
     let on3 = then p v2 v3 on2 c.visit-2.ensures.onward in
     onto p v3 (λ z. Told z c.args.ramps.now.slopes p.subject.now.most t1 c.saturating_sub-opposite.result) on3 (record {
       enough = p.subject.now.known.anywhere _;
-      energies = c.requires.energies _;
-      candidate = subst (λ (t : ℕ). IsInterval t1 t → Candidate s t1 t) (sym c.saturating_sub-opposite.ensures) c.requires.candidates.1.1.1.0;
+      energies = λ l. c.requires.energies _ _ refl l;
+      candidate = subst (λ (t : ℕ). IsInterval t1 t → Candidate s t1 t) (sym c.saturating_sub-opposite.ensures) (start_made (sheet_in c.args.pass.now) c.args.self.now.at c.requires.fits c.args.place c.requires.place).1.1.1.0;
     })
 
 pub returns : goal.returns
 returns c =
-    let p = c.args.self.now in
+    let p = c.args.pass.now in
     let s = sheet_in p in
     let e = entry s c.args.place in
-    let t1 = c.args.t1 in
+    let t1 = c.args.self.now.at in
     let t4 = c.saturating_sub-opposite.result in
     let v1 = c.visit.new.self in
     let v2 = c.visit_other.new.self in
