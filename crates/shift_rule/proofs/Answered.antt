@@ -11,7 +11,7 @@ use Rattle.model.specs.Shift.{NegativeCandidate}
 use Rattle.shift.specs.Meaning.{made_by, meaning_S}
 use Rattle.shift.proofs.ByPairs.{OnPairs, some_by_pairs, none_by_pairs, start_by_pairs}
 use Rattle.shift.proofs.RuleS.{evidence_is_S, start_is_S, is_S}
-use Rattle.shift_rule.specs.declared.surveys.Survey.{Survey}
+use Rattle.shift_rule.specs.declared.pass.Survey.{Survey}
 use Rattle.shift_rule.specs.Found.{start_in, Right, LedBy, Accounted, AccountedAround}
 
 -- before any interval, the releases are right

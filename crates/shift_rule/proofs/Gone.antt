@@ -5,7 +5,7 @@ use Rattle.std.proofs.lemmas.Bool.{cases_lt, false≢true}
 use mathlib.Core.Logic.{∥∥₁_elim, ∥∥₁_map}
 use Rattle.model.specs.Sheets.{Sheet, count}
 use Rattle.shift_rule.specs.declared.slots.Slots.{Slots}
-use Rattle.shift_rule.specs.declared.surveys.Survey.{Survey}
+use Rattle.shift_rule.specs.declared.pass.Survey.{Survey}
 use Rattle.shift_rule.specs.Found.{Grows, AccountedFrom, AccountedTo}
 use Rattle.shift_rule.specs.Points.{Marks, GoneThrough}
 use Rattle.shift_rule.proofs.Onward.{from_still, to_still}

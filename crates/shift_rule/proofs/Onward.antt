@@ -5,7 +5,7 @@ use Rattle.model.specs.declared.intervals.Interval.{Interval}
 use Rattle.model.specs.Sheets.{Sheet, count, entry}
 use Rattle.shift.specs.Meaning.{from_start, to_end}
 use Rattle.shift_rule.specs.declared.pass.Pass.{Pass}
-use Rattle.shift_rule.specs.declared.surveys.Survey.{Survey}
+use Rattle.shift_rule.specs.declared.pass.Survey.{Survey}
 use Rattle.shift_rule.specs.Found.{Accounted, Grows, AllAccounted, AccountedFrom, AccountedTo}
 use Rattle.shift_rule.specs.Passes.{sheet_in, Onward}
 

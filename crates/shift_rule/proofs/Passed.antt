@@ -2,8 +2,8 @@
 use Rattle.std.proofs.Common.{ℕ, ◌+◌, ◌-◌, ◌*◌, ◌≤◌, refl, arith}
 use Rattle.model.specs.Sheets.{Sheet, Sound}
 use Rattle.model.specs.Energy.{IsInterval, energy}
-use Rattle.shift_rule.specs.declared.slopes.Slopes.{Slopes}
-use Rattle.shift_rule.specs.declared.surveys.Survey.{Survey}
+use Rattle.shift_rule.specs.declared.ramps.Slopes.{Slopes}
+use Rattle.shift_rule.specs.declared.pass.Survey.{Survey}
 use Rattle.shift_rule.specs.Ramps.{Low}
 use Rattle.shift_rule.specs.Found.{Right, Accounted}
 use Rattle.shift_rule.specs.Passes.{Told}

@@ -5,7 +5,7 @@ use Rattle.model.specs.declared.intervals.Interval.{Interval}
 use Rattle.model.specs.Sheets.{Sheet, count, entry}
 use Rattle.model.specs.Energy.{IsInterval, NegativeSlack, lack, ceiling}
 use Rattle.model.specs.Rules.{NoLater}
-use Rattle.shift_rule.specs.declared.surveys.Survey.{Survey}
+use Rattle.shift_rule.specs.declared.pass.Survey.{Survey}
 use Rattle.shift_rule.specs.Found.{start_in, LedBy, Accounted, AccountedFrom, AccountedTo}
 
 apart_prop : {A B : Type 0} → IsProp A → IsProp B → ¬ (A × B) → IsProp (A ⊎ B)

@@ -11,7 +11,7 @@ use Rattle.model.specs.Shift.{NegativeCandidate}
 use Rattle.shift.specs.Meaning.{from_to, no_later?, sooner}
 use Rattle.shift.proofs.Energies.{lack_by_energy}
 use Rattle.shift.proofs.Listed.{no_later_true, no_later_false, no_later_itself, no_later_on}
-use Rattle.shift_rule.specs.declared.surveys.Survey.{Survey}
+use Rattle.shift_rule.specs.declared.pass.Survey.{Survey}
 use Rattle.shift_rule.specs.Forced.{lack_beside, start_after}
 use Rattle.shift_rule.specs.Leeways.{leeway, Enough}
 use Rattle.shift_rule.specs.Found.{start_in, Reached, Right, LedBy, Accounted, Grows}

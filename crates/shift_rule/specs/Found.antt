@@ -8,7 +8,7 @@ use Rattle.model.specs.Rules.{NoLater}
 use Rattle.model.specs.Shift.{NegativeCandidate}
 use Rattle.shift.specs.Meaning.{from_start, to_end, made_by}
 use Rattle.shift_rule.specs.Leeways.{Enough}
-use Rattle.shift_rule.specs.declared.surveys.Survey.{Survey}
+use Rattle.shift_rule.specs.declared.pass.Survey.{Survey}
 
 -- The start of an entry that a pass has found.
 abbrev pub start_in : Survey → ℕ → ℕ

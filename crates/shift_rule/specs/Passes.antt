@@ -4,7 +4,7 @@ use Rattle.model.specs.Sheets.{Sheet, count}
 use Rattle.model.specs.Energy.{IsInterval, Candidate, energy}
 use Rattle.sheet.specs.Listed.{meant}
 use Rattle.shift_rule.specs.declared.pass.Pass.{Pass}
-use Rattle.shift_rule.specs.declared.slopes.Slopes.{Slopes}
+use Rattle.shift_rule.specs.declared.ramps.Slopes.{Slopes}
 use Rattle.shift_rule.specs.Leeways.{Enough}
 use Rattle.shift_rule.specs.Ramps.{climbed}
 use Rattle.shift_rule.specs.Found.{Grows}

@@ -2,7 +2,7 @@
 use Rattle.std.specs.Prelude.{◌≡◌, ℕ, true, false, slice_index_or}
 use Rattle.model.specs.Sheets.{Sheet}
 use Rattle.shift_rule.specs.declared.slots.Slots.{Slots}
-use Rattle.shift_rule.specs.declared.surveys.Survey.{Survey}
+use Rattle.shift_rule.specs.declared.pass.Survey.{Survey}
 use Rattle.shift_rule.specs.Found.{AccountedFrom, AccountedTo}
 
 -- Each slot that is in a set has P.

@@ -3,8 +3,8 @@ use Rattle.std.specs.Prelude.{◌≡◌, ℕ, ◌-◌, ◌*◌, ◌<◌, ◌≤�
 use Rattle.model.specs.Total.{total}
 use Rattle.model.specs.Sheets.{Sheet, rows_max}
 use Rattle.model.specs.Energy.{energy}
-use Rattle.shift_rule.specs.declared.slopes.Ramp.{Ramp}
-use Rattle.shift_rule.specs.declared.slopes.Slopes.{Slopes}
+use Rattle.shift_rule.specs.declared.ramps.Ramp.{Ramp}
+use Rattle.shift_rule.specs.declared.ramps.Slopes.{Slopes}
 
 -- The energy at a distance on a ramp.
 abbrev pub rise : Ramp → ℕ → ℕ

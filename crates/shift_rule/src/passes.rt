@@ -6,13 +6,11 @@ ghost use Rattle.sheet.specs.Listed.{meant};
 ghost use Rattle.shift_rule.specs.Found.{Right, AllAccounted, AccountedFrom, AccountedTo, AccountedAround, TheEnd};
 ghost use Rattle.shift_rule.specs.Passes.{sheet_in, Onward};
 
-use crate::climbs::ramps;
-use crate::pass::Pass;
-use crate::reaching::subject;
+use crate::pass::{Pass, Survey};
+use crate::ramps::Ramps;
 use crate::sides::{Close, Side, Start};
 use crate::slots::Slots;
 use crate::subjects::Subject;
-use crate::surveys::Survey;
 use sheet::lists::Listed;
 
 impl<'s, 'a> Pass<'s, 'a> {
@@ -23,7 +21,7 @@ impl<'s, 'a> Pass<'s, 'a> {
         ensures accounted { (j : ℕ) → j < count (sheet_in self.old) → AllAccounted (sheet_in self.old) self.new.found (S.made side.now (entry (sheet_in self.old) j)) }
     {
         let sheet = self.subject.movers.sheet;
-        let ramps = ramps(sheet, side);
+        let ramps = Ramps::of(sheet, side);
         for place in 0..sheet.entries.len() {
             side.account(self, &ramps, place);
         }
@@ -99,5 +97,5 @@ pub(crate) fn survey(sheet: Listed<'_>) -> Survey
     ensures right { ∥ Right (meant sheet.entry) result ∥₁ }
     ensures accounted { (i : ℕ) → i < count (meant sheet.entry) → AccountedAround (meant sheet.entry) result i }
 {
-    go_through(&subject(sheet))
+    go_through(&Subject::of(sheet))
 }

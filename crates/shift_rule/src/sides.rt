@@ -11,8 +11,7 @@ ghost use Rattle.shift_rule.specs.Passes.{sheet_in, Onward};
 
 use crate::energies::{left_part, right_part};
 use crate::pass::Pass;
-use crate::ramps::Ramps;
-use crate::slopes::Ramp;
+use crate::ramps::{Ramp, Ramps};
 use model::entries::Entry;
 
 pub trait Side {

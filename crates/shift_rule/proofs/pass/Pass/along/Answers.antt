@@ -18,7 +18,7 @@ account-requires g c =
     let on = c.loop-place.invariant.0 in
     record {
       fits = onto p q (λ s. g.S.Side.fits side s) on c.requires;
-      energies = onto p q (λ s. Energies (g.S.Side.has side) s c.ramps-ramps.result.slopes) on c.ramps-ramps.ensures;
+      energies = onto p q (λ s. Energies (g.S.Side.has side) s c.of-ramps.result.slopes) on c.of-ramps.ensures;
       place = onto p q (λ s. c.loop-place.place < count s) on c.loop-place-test.true;
     }
 

@@ -3,7 +3,7 @@ use Rattle.std.proofs.Common.{ℕ, ◌≤◌, arith, below_more}
 use Rattle.model.specs.Sheets.{entry}
 use Rattle.sheet.specs.Listed.{meant}
 use Rattle.shift_rule.specs.Leeways.{leeway}
-use Rattle.shift_rule.proofs.reaching.reach_anywhere.Goals as goal
+use Rattle.shift_rule.proofs.subjects.reach_anywhere.Goals as goal
 
 pub loop-e-preserved : goal.loop-e-preserved
 loop-e-preserved c =

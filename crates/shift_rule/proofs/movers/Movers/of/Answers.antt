@@ -4,8 +4,8 @@ use Rattle.model.specs.Sheets.{entry}
 use Rattle.sheet.specs.Listed.{meant}
 use Rattle.shift_rule.specs.Leeways.{Spares}
 use Rattle.shift_rule.proofs.Listing.{listed_none, listed_more, listed_still}
-use Rattle.shift_rule.proofs.reaching.movers.Goals as goal
-use Rattle.shift_rule.proofs.reaching.movers.Goals.{then-e, else-e}
+use Rattle.shift_rule.proofs.movers.Movers.of.Goals as goal
+use Rattle.shift_rule.proofs.movers.Movers.of.Goals.{then-e, else-e}
 
 pub loop-place-init : goal.loop-place-init
 loop-place-init c = rw c.new-places.ensures (listed_none (λ j. Spares (entry (meant c.args.sheet) j)))

@@ -4,7 +4,7 @@ use Rattle.model.specs.Sheets.{count}
 use Rattle.sheet.specs.Listed.{meant}
 use Rattle.shift_rule.specs.Ramps.{rise}
 use Rattle.shift_rule.proofs.Climbing.{Added, small_climb, added_none, added_more}
-use Rattle.shift_rule.proofs.climbs.ramps.Goals as goal
+use Rattle.shift_rule.proofs.ramps.Ramps.of.Goals as goal
 
 pub loop-e-init : goal.loop-e-init
 loop-e-init g c =
