@@ -1,5 +1,7 @@
 -- From what a pass has found to the answers of S.
 use Rattle.std.proofs.Common.{◌≡◌, ℕ, ◌+◌, ◌-◌, ◌<◌, ◌≤◌, List, length, get_or, Some, None, Option, refl, subst, inl, arith}
+use Rattle.std.proofs.Props.{props}
+use mathlib.Core.Logic.{∥∥₁_elim}
 use Rattle.std.proofs.ByRecursion.{All-weaker}
 use Rattle.model.specs.declared.intervals.Interval.{Interval}
 use Rattle.model.specs.Sheets.{Sheet, Sound, count, entry, rows_max}
@@ -9,7 +11,7 @@ use Rattle.model.specs.Shift.{NegativeCandidate}
 use Rattle.shift.specs.Meaning.{made_by, meaning_S}
 use Rattle.shift.proofs.ByPairs.{OnPairs, some_by_pairs, none_by_pairs, start_by_pairs}
 use Rattle.shift.proofs.RuleS.{evidence_is_S, start_is_S, is_S}
-use Rattle.shift_rule.specs.declared.surveys.Survey.{Survey}
+use Rattle.shift_rule.specs.declared.pass.Survey.{Survey}
 use Rattle.shift_rule.specs.Found.{start_in, Right, LedBy, Accounted, AccountedAround}
 
 -- before any interval, the releases are right
@@ -38,13 +40,13 @@ module _ (s : Sheet) (v : Survey) (right : Right s v) (all : (i : ℕ) → i < c
       (on_pairs (λ t1 t2. IsInterval t1 t2 → NegativeSlack s t1 t2 → NoLater i t1 t2) (led (Some i) e))
   found_named None e = none_by_pairs s (on_pairs (λ t1 t2. IsInterval t1 t2 → ¬ NegativeSlack s t1 t2) (led None e))
 
-  pub found_is_S : meaning_S.evidence s ≡ v.first
+  found_is_S : meaning_S.evidence s ≡ v.first
   found_is_S = evidence_is_S s v.first (found_named v.first refl)
 
-  pub none_negative : v.first ≡ None → (t1 t2 : ℕ) → ¬ NegativeCandidate s t1 t2
+  none_negative : v.first ≡ None → (t1 t2 : ℕ) → ¬ NegativeCandidate s t1 t2
   none_negative e = found_named None e
 
-  pub starts_are_S : v.first ≡ None → (k : ℕ) → k < count s → meaning_S.earliest s k ≡ Some (start_in v k)
+  starts_are_S : v.first ≡ None → (k : ℕ) → k < count s → meaning_S.earliest s k ≡ Some (start_in v k)
   starts_are_S none k l =
       let clear = none_negative none in
       let old = right.starts k l in
@@ -53,6 +55,13 @@ module _ (s : Sheet) (v : Survey) (right : Right s v) (all : (i : ℕ) → i < c
       (on_pairs (λ t1 t2. IsInterval t1 t2 → t2 < (entry s k).deadline → 0 < lack s k t1 t2 →
       (t2 + ceiling (lack s k t1 t2) (entry s k).demand) - (entry s k).duration ≤ start_in v k)
       (λ t1 t2 h is before short. h.forced is (led None none t1 t2 h is) k l before short)))
+
+module _ (s : Sheet) (v : Survey) (right : ∥ Right s v ∥₁) (all : (i : ℕ) → i < count s → AccountedAround s v i) where
+  pub evidence_found : meaning_S.evidence s ≡ v.first
+  evidence_found = ∥∥₁_elim right (hlevel props) (λ r. found_is_S s v r all)
+
+  pub starts_found : v.first ≡ None → (k : ℕ) → k < count s → meaning_S.earliest s k ≡ Some (start_in v k)
+  starts_found none k l = ∥∥₁_elim right (hlevel props) (λ r. starts_are_S s v r all none k l)
 
 -- beside evidence every start is the release
 pub stays_beside : (s : Sheet) → Sound s → (i : Interval) → meaning_S.evidence s ≡ Some i → (k : ℕ) → k < count s →

@@ -8,7 +8,7 @@ use Rattle.model.specs.Sheets.{Sheet, Sound, count, entry, capacity_max, horizon
 use Rattle.model.specs.Energy.{left_part, right_part, held, energy_of}
 use Rattle.model.proofs.Sums.{total_ext, total_none, total_more}
 use Rattle.shift.proofs.Energies.{energy_is}
-use Rattle.shift_rule.specs.declared.slopes.Slopes.{Slopes}
+use Rattle.shift_rule.specs.declared.ramps.Slopes.{Slopes}
 use Rattle.shift_rule.specs.Ramps.{climb, climbed, Low}
 
 -- ---- one entry

@@ -1,10 +1,12 @@
+pub mod Blank
 pub mod Leeway
 pub mod Raised
 pub mod Listing
 pub mod Weighed
 pub mod Passed
-pub mod Onward
 pub mod Made
 pub mod Answered
 pub mod Climbing
+pub mod Onward
+pub mod Sure
 pub mod Gone

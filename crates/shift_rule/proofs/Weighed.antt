@@ -1,5 +1,8 @@
 -- What one candidate adds to what was found.
 use Rattle.std.proofs.Common.{◌≡◌, ℕ, ◌+◌, ◌-◌, ◌*◌, ◌<◌, ◌≤◌, max, cond, ◌&&◌, ltb, List, length, get_or, Some, None, Option, sym, refl, ap, ◌∙◌, inl, inr, arith}
+use Rattle.std.specs.Coded.{le_prop}
+use Rattle.std.proofs.Props.{props}
+use mathlib.Core.Logic.{∥∥₁_elim}
 use Rattle.std.proofs.lemmas.Bool.{cases_Bool, cases_lt, and_parts, and_from, lt-ltb, ltb-true, cond-true, cond-false, cond_both}
 use Rattle.model.specs.declared.intervals.Interval.{Interval}
 use Rattle.model.specs.Sheets.{Sheet, Sound, count, entry, rows_max}
@@ -8,10 +11,10 @@ use Rattle.model.specs.Shift.{NegativeCandidate}
 use Rattle.shift.specs.Meaning.{from_to, no_later?, sooner}
 use Rattle.shift.proofs.Energies.{lack_by_energy}
 use Rattle.shift.proofs.Listed.{no_later_true, no_later_false, no_later_itself, no_later_on}
-use Rattle.shift_rule.specs.declared.surveys.Survey.{Survey}
+use Rattle.shift_rule.specs.declared.pass.Survey.{Survey}
 use Rattle.shift_rule.specs.Forced.{lack_beside, start_after}
 use Rattle.shift_rule.specs.Leeways.{leeway, Enough}
-use Rattle.shift_rule.specs.Found.{start_in, Reached, Right, LedBy, Accounted, Onward}
+use Rattle.shift_rule.specs.Found.{start_in, Reached, Right, LedBy, Accounted, Grows}
 use Rattle.shift_rule.proofs.Leeway.{stays_released}
 
 -- ---- the first interval
@@ -34,25 +37,36 @@ sooner_has P i (Some j) here there v e =
     let same : cond (no_later? i j) i j ≡ v = cc in
     rw same at (cond_both (no_later? i j) i j P (λ _. here) (λ _. there j refl))
 
-module _ (s : Sheet) (v : Survey) (right : Right s v) (t1 t2 : ℕ) (c : Candidate s t1 t2) where
+-- every start that was found is no sooner than the release
+pub released : (s : Sheet) (v : Survey) → ∥ Right s v ∥₁ → (k : ℕ) → k < count s → (entry s k).release ≤ start_in v k
+released s v right k l = ∥∥₁_elim right le_prop (λ r. (r.starts k l).released)
+
+pub whole : (s : Sheet) (v : Survey) → ∥ Right s v ∥₁ → length v.starts ≡ rows_max
+whole s v right = ∥∥₁_elim right (hlevel props) (λ r. r.places)
+
+module _ (s : Sheet) (v : Survey) (t1 t2 : ℕ) (c : Candidate s t1 t2) where
   -- ---- negative slack
   module _ (o : Option Interval) (is-sooner : o ≡ sooner (from_to t1 t2) v.first) (over : NegativeSlack s t1 t2) where
-    pub sooner_onward : Onward s v (record { first = o; starts = v.starts })
-    sooner_onward =
+    abbrev led : Survey
+    led = record { first = o; starts = v.starts }
+
+    pub sooner_right : Right s v → Right s led
+    sooner_right right =
         record {
-          right = record {
-            negative = λ i e. sooner_has (λ i. NegativeCandidate s i.t1 i.t2) (from_to t1 t2) v.first
-                (record { candidate = c; negative = over }) right.negative i (sym is-sooner ∙ e);
-            starts = right.starts;
-            places = right.places;
-          };
-          grows = record {
-            first = λ u1 u2 h. rw is-sooner (led_on (from_to t1 t2) v.first u1 u2 h);
-            starts = λ k l. omega arith;
-          };
+          negative = λ i e. sooner_has (λ i. NegativeCandidate s i.t1 i.t2) (from_to t1 t2) v.first
+              (record { candidate = c; negative = over }) right.negative i (sym is-sooner ∙ e);
+          starts = right.starts;
+          places = right.places;
         }
 
-    pub sooner_accounted : Accounted s (record { first = o; starts = v.starts }) t1 t2
+    pub sooner_grows : Grows (count s) v led
+    sooner_grows =
+        record {
+          first = λ u1 u2 h. rw is-sooner (led_on (from_to t1 t2) v.first u1 u2 h);
+          starts = λ k l. omega arith;
+        }
+
+    pub sooner_accounted : Accounted s led t1 t2
     sooner_accounted =
         record {
           negative = λ _ _. rw is-sooner (led_here (from_to t1 t2) v.first);
@@ -94,8 +108,8 @@ module _ (s : Sheet) (v : Survey) (right : Right s v) (t1 t2 : ℕ) (c : Candida
         ]
 
     -- slack that leaves no leeway
-    pub wide_accounted : Sound s → (reach : ℕ) → Enough s t2 reach → reach ≤ slack → Accounted s v t1 t2
-    wide_accounted sound reach enough wide =
+    pub wide_accounted : Sound s → ((k : ℕ) → k < count s → (entry s k).release ≤ start_in v k) → (reach : ℕ) → Enough s t2 reach → reach ≤ slack → Accounted s v t1 t2
+    wide_accounted sound starts reach enough wide =
         record {
           negative = λ _ over. absurd (omega arith);
           forced = λ _ _ k l before short.
@@ -105,34 +119,35 @@ module _ (s : Sheet) (v : Survey) (right : Right s v) (t1 t2 : ℕ) (c : Candida
                 arith,
                 stays_released (entry s k) fine.room t1 t2 slack fine.asks less,
                 after_forced k l before short,
-                (right.starts k l).released,
+                starts k l,
               );
         }
 
     module _ (starts : List ℕ) (many : length starts ≡ rows_max)
         (raised : (k : ℕ) → k < count s → get_or starts k 0 ≡ max (start_in v k) (start_after (entry s k) t1 t2 slack)) where
-      reached_more : (k : ℕ) → k < count s → Reached s k (get_or starts k 0)
-      reached_more k l =
-          let old = right.starts k l in
+      abbrev up : Survey
+      up = record { first = v.first; starts = starts }
+
+      reached_more : (k : ℕ) → k < count s → Reached s k (start_in v k) → Reached s k (get_or starts k 0)
+      reached_more k l old =
           let is' = raised k l in
           record {
             released = omega arith;
             forced = elim (cases_lt (start_in v k) (start_after (entry s k) t1 t2 slack)) [
-              | inl up ↦ inr (forced_after k (get_or starts k 0) l (omega arith) (omega arith))
-              | inr down ↦
+              | inl more ↦ inr (forced_after k (get_or starts k 0) l (omega arith) (omega arith))
+              | inr less ↦
                   let same : get_or starts k 0 ≡ start_in v k = omega arith in
                   elim old.forced [ inl e ↦ inl (same ∙ e) | inr (end, f, e) ↦ inr (end, f, same ∙ e) ]
             ];
           }
 
-      pub raised_onward : Onward s v (record { first = v.first; starts = starts })
-      raised_onward =
-          record {
-            right = record { negative = right.negative; starts = reached_more; places = many };
-            grows = record { first = λ u1 u2 h. h; starts = λ k l. omega (arith, raised k l) };
-          }
+      pub raised_right : Right s v → Right s up
+      raised_right right = record { negative = right.negative; starts = λ k l. reached_more k l (right.starts k l); places = many }
 
-      pub raised_accounted : Accounted s (record { first = v.first; starts = starts }) t1 t2
+      pub raised_grows : Grows (count s) v up
+      raised_grows = record { first = λ u1 u2 h. h; starts = λ k l. omega (arith, raised k l) }
+
+      pub raised_accounted : Accounted s up t1 t2
       raised_accounted =
           record {
             negative = λ _ over. absurd (omega arith);

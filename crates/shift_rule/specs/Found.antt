@@ -3,11 +3,12 @@ use Rattle.std.specs.Prelude.{◌≡◌, ℕ, ◌+◌, ◌-◌, ◌<◌, ◌≤�
 use Rattle.std.specs.List.{AllByRecursion}
 use Rattle.model.specs.declared.intervals.Interval.{Interval}
 use Rattle.model.specs.Sheets.{Sheet, count, entry, rows_max}
-use Rattle.model.specs.Energy.{IsInterval, Candidate, NegativeSlack, ForcedEnd, lack, ceiling}
+use Rattle.model.specs.Energy.{IsInterval, Candidate, EndPoint, NegativeSlack, ForcedEnd, lack, ceiling}
 use Rattle.model.specs.Rules.{NoLater}
 use Rattle.model.specs.Shift.{NegativeCandidate}
 use Rattle.shift.specs.Meaning.{from_start, to_end, made_by}
-use Rattle.shift_rule.specs.declared.surveys.Survey.{Survey}
+use Rattle.shift_rule.specs.Leeways.{Enough}
+use Rattle.shift_rule.specs.declared.pass.Survey.{Survey}
 
 -- The start of an entry that a pass has found.
 abbrev pub start_in : Survey → ℕ → ℕ
@@ -40,11 +41,6 @@ pub record Grows (n : ℕ) (v w : Survey) : Type 0 where
   pub first : (t1 t2 : ℕ) → LedBy v.first t1 t2 → LedBy w.first t1 t2
   pub starts : (k : ℕ) → k < n → start_in v k ≤ start_in w k
 
--- A pass went from v to w: what it has found is true of the sheet, and what it had found, it still has.
-pub record Onward (s : Sheet) (v w : Survey) : Type 0 where
-  pub right : Right s w
-  pub grows : Grows (count s) v w
-
 -- Of a list, what is an interval is a candidate.
 abbrev pub AllCandidates : Sheet → List Interval → Type 0
 AllCandidates s = AllByRecursion (λ i. IsInterval i.t1 i.t2 → Candidate s i.t1 i.t2)
@@ -64,3 +60,8 @@ AccountedTo s v t2 = (j : ℕ) → j < count s → Accounted s v (to_end t2 (ent
 -- All that the points of the entry at place i make with the others is accounted for.
 abbrev pub AccountedAround : Sheet → Survey → ℕ → Type 0
 AccountedAround s v i = (j : ℕ) → j < count s → AllAccounted s v (made_by (entry s i) (entry s j))
+
+-- An end point, and slack that moves no entry in an interval that closes there.
+pub record TheEnd (s : Sheet) (t2 reach : ℕ) : Type 0 where
+  pub enough : Enough s t2 reach
+  pub point : EndPoint s t2

@@ -3,7 +3,7 @@ use Rattle.std.specs.Prelude.{◌≡◌, ℕ, ◌+◌, ◌-◌, ◌*◌, ◌<◌
 use Rattle.model.specs.declared.entries.Entry.{Entry}
 use Rattle.model.specs.Sheets.{Sheet, count, entry, rows_max}
 use Rattle.model.specs.Energy.{right_part}
-use Rattle.shift_rule.specs.declared.leeways.Reach.{Reach}
+use Rattle.shift_rule.specs.declared.movers.Reach.{Reach}
 
 -- The leeway of an entry at t2: its demand in the slots that it runs after t2 where it ends as late as it can, beyond
 -- those where it starts as early as it can.

@@ -3,8 +3,8 @@ use Rattle.std.specs.Prelude.{◌≡◌, ℕ, ◌-◌, ◌*◌, ◌<◌, ◌≤�
 use Rattle.model.specs.Total.{total}
 use Rattle.model.specs.Sheets.{Sheet, rows_max}
 use Rattle.model.specs.Energy.{energy}
-use Rattle.shift_rule.specs.declared.slopes.Ramp.{Ramp}
-use Rattle.shift_rule.specs.declared.slopes.Slopes.{Slopes}
+use Rattle.shift_rule.specs.declared.ramps.Ramp.{Ramp}
+use Rattle.shift_rule.specs.declared.ramps.Slopes.{Slopes}
 
 -- The energy at a distance on a ramp.
 abbrev pub rise : Ramp → ℕ → ℕ
@@ -28,10 +28,6 @@ pub record Low (r : Slopes) (top : ℕ) : Type 0 where
   pub topped : (far : ℕ) → climbed r far ≤ top
   pub low : (k : ℕ) → k < r.count → slice_index r.demands k * slice_index r.lengths k ≤ 16511040
 
--- The ramps have the energies of the intervals that begin at t1.
-abbrev pub From : Sheet → ℕ → Slopes → Type 0
-From s t1 r = (t2 : ℕ) → t1 < t2 → climbed r (t2 - t1) ≡ energy s t1 t2
-
--- The ramps have the energies of the intervals that close at t2.
-abbrev pub To : Sheet → ℕ → Slopes → Type 0
-To s t2 r = (t1 : ℕ) → t1 < t2 → climbed r (t2 - t1) ≡ energy s t1 t2
+-- The ramps have the energies of all intervals that have a side.
+abbrev pub Energies : (ℕ → ℕ → Type 0) → Sheet → Slopes → Type 0
+Energies has s r = (t1 t2 : ℕ) → has t1 t2 → t1 < t2 → climbed r (t2 - t1) ≡ energy s t1 t2

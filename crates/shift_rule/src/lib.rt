@@ -2,17 +2,13 @@
 #![tactic(auto)]
 
 mod answers;
-mod climbs;
 mod energies;
-mod leeways;
 mod movers;
+mod pass;
 mod passes;
-mod points;
 mod ramps;
-mod reaching;
 pub mod shifts;
 mod sides;
-mod slopes;
+mod slots;
 mod subjects;
-mod surveys;
 mod visits;

@@ -1,10 +1,12 @@
 // What a pass is over.
+ghost use Rattle.std.specs.Prelude.{◌≡◌, ℕ, ◌+◌, ◌≤◌};
 ghost use Rattle.sheet.specs.Listed.{meant};
-ghost use Rattle.shift_rule.specs.Leeways.{Known};
+ghost use Rattle.shift_rule.specs.Leeways.{leeway as leeway_of, Enough, Known};
 
-use crate::leeways::Reach;
-use crate::movers::Movers;
+use crate::movers::{Movers, Reach};
+use model::entries::Entry;
 use model::limits::ROWS_MAX;
+use sheet::lists::Listed;
 
 // A sheet, the places of its entries that have a slot to spare, and how much slack moves none of them: at the end
 // points of each entry, and anywhere.
@@ -14,4 +16,39 @@ pub struct Subject<'a> {
     pub(crate) reaches: [Reach; ROWS_MAX],
     pub(crate) most: u32,
     ghost known: { Known (meant movers.sheet) reaches most },
+}
+
+// The leeway of an entry is nowhere greater than its demand in the slots that it has to spare, or in all that it runs.
+fn widest(e: Entry) -> u32
+    requires { e.release + e.duration ≤ e.deadline }
+    ensures { (t2 : ℕ) → leeway_of e t2 ≤ result }
+{
+    let spare = e.deadline - (e.release + e.duration);
+    u32::from(e.demand) * u32::from(e.duration.min(spare))
+}
+
+// As great a leeway as any entry has anywhere.
+fn reach_anywhere(sheet: Listed<'_>) -> u32
+    ensures { (t2 : ℕ) → Enough (meant sheet.entry) t2 result }
+{
+    let mut most = 0;
+    for e in sheet.entries {
+        most = widest(*e).max(most);
+    }
+    most
+}
+
+impl<'a> Subject<'a> {
+    // A sheet, with how far its entries can be moved.
+    pub(crate) fn of(sheet: Listed<'a>) -> Self
+        ensures { meant result.movers.sheet ≡ meant sheet.entry }
+    {
+        let movers = Movers::of(sheet);
+        let reaches = movers.reaches();
+        Subject {
+            movers,
+            reaches,
+            most: reach_anywhere(sheet),
+        }
+    }
 }

@@ -7,8 +7,8 @@ use Rattle.shift_rule.proofs.passes.survey.Goals as goal
 pub returns : goal.returns
 returns c =
     let v = c.go_through.result in
-    let same = c.subject.ensures in
+    let same = c.of.ensures in
     record {
-      right = subst (λ (s : Sheet). Right s v) same c.go_through.ensures.right;
+      right = subst (λ (s : Sheet). ∥ Right s v ∥₁) same c.go_through.ensures.right;
       accounted = subst (λ (s : Sheet). (i : ℕ) → i < count s → AccountedAround s v i) same c.go_through.ensures.accounted;
     }

@@ -2,7 +2,7 @@
 use Rattle.std.proofs.Common.{◌≡◌, ℕ, ◌-◌, ◌*◌, ◌≤◌, min, get_or, sym, ap, ◌∙◌, inl, inr, mul-le-mul_left, arith}
 use Rattle.std.proofs.lemmas.Bool.{cases_lt}
 use Rattle.model.proofs.Sums.{total_none, total_more}
-use Rattle.shift_rule.specs.declared.slopes.Slopes.{Slopes}
+use Rattle.shift_rule.specs.declared.ramps.Slopes.{Slopes}
 use Rattle.shift_rule.specs.Ramps.{climb, Low}
 use Rattle.shift_rule.proofs.Climbing.{climb_past, climbed_by}
 use Rattle.shift_rule.proofs.ramps.Ramps.climbed.Goals as goal
