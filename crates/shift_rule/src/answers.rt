@@ -1,4 +1,4 @@
-// The answer of S, from one pass over the candidates.
+// The answers of S, each from one pass over the candidates.
 ghost use Rattle.std.specs.Prelude.{◌≡◌, ℕ, ◌<◌, Some, None, MatchResult, slice_index};
 ghost use Rattle.model.specs.Sheets.{count};
 ghost use Rattle.shift.specs.Meaning.{meaning_S};
@@ -17,5 +17,16 @@ pub(crate) fn judged(sheet: Listed<'_>) -> Result<[u16; ROWS_MAX], Interval>
     match found.first {
         Some(first) => Err(first),
         None => Ok(found.starts),
+    }
+}
+
+// The earliest starts of all entries, at their places: where there is evidence, the releases.
+pub(crate) fn earliest_starts(sheet: Listed<'_>) -> [u16; ROWS_MAX]
+    ensures { (k : ℕ) → k < count (meant sheet.entry) → meaning_S.earliest (meant sheet.entry) k ≡ Some (slice_index result k) }
+{
+    // kept: tried as `unwrap_or_else`, whose closure needs a clause of its own, so that it is no plainer.
+    match judged(sheet) {
+        Ok(starts) => starts,
+        Err(_) => sheet.releases(),
     }
 }

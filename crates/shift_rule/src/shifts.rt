@@ -3,7 +3,7 @@ ghost use Rattle.std.specs.Prelude.{refl};
 ghost use Rattle.shift.specs.Meaning.{meaning_S, first_negative};
 ghost use Rattle.shift.proofs.RuleS.{is_S, lawful_S};
 
-use crate::answers::judged;
+use crate::answers::{earliest_starts, judged};
 use model::intervals::Interval;
 use model::limits::ROWS_MAX;
 use rules::rule::Rule;
@@ -45,11 +45,7 @@ impl Rule for Shift {
     }
 
     fn earliest_all<S: Sheet>(&self, sheet: &S) -> [u16; ROWS_MAX] {
-        let list = list(sheet);
-        match judged(list.lend()) {
-            Ok(starts) => starts,
-            Err(_) => list.lend().releases(),
-        }
+        earliest_starts(list(sheet).lend())
     }
 
     fn judge<S: Sheet>(&self, sheet: &S) -> Result<[u16; ROWS_MAX], Interval> {

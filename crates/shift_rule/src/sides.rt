@@ -40,6 +40,14 @@ pub trait Side {
         ensures accounted { AllAccounted (sheet_in pass.old) pass.new.found (made self.now (entry (sheet_in pass.old) place)) };
 }
 
+// The partner of t1 in the window of an entry; slot 0 where it would lie before it.
+fn opposite(t1: u16, e: Entry) -> u16
+    requires { (e.release ≤ horizon) × (e.deadline ≤ horizon) }
+    ensures { result ≡ (e.release + e.deadline) - t1 }
+{
+    (e.release + e.deadline).saturating_sub(t1)
+}
+
 // The intervals that begin at a start point.
 #[derive(Drop)]
 pub struct Start {
@@ -76,11 +84,10 @@ impl Side for Start {
         let reach = subject.reaches[place];
         let early_end = e.release + e.duration;
         let late_start = e.deadline - e.duration;
-        let opposite = (e.release + e.deadline).saturating_sub(t1);
         pass.visit(ramps, reach.deadline, t1, e.deadline);
         pass.visit_other(ramps, reach.early_end, t1, early_end, e.deadline);
         pass.visit(ramps, reach.late_start, t1, late_start);
-        pass.visit(ramps, subject.most, t1, opposite);
+        pass.visit(ramps, subject.most, t1, opposite(t1, e));
     }
 }
 

@@ -56,10 +56,10 @@ visit-requires-3 c =
     let v3 = c.visit-2.new.self in
     let on2 = then p v1 v2 c.visit.ensures.onward c.visit_other.ensures.onward in
     let on3 = then p v2 v3 on2 c.visit-2.ensures.onward in
-    onto p v3 (λ z. Told z c.args.ramps.now.slopes p.subject.now.most t1 c.saturating_sub-opposite.result) on3 (record {
+    onto p v3 (λ z. Told z c.args.ramps.now.slopes p.subject.now.most t1 c.opposite.result) on3 (record {
       enough = p.subject.now.known.anywhere _;
       energies = λ l. c.requires.energies _ _ refl l;
-      candidate = subst (λ (t : ℕ). IsInterval t1 t → Candidate s t1 t) (sym c.saturating_sub-opposite.ensures) (start_made (sheet_in c.args.pass.now) c.args.self.now.at c.requires.fits c.args.place c.requires.place).1.1.1.0;
+      candidate = subst (λ (t : ℕ). IsInterval t1 t → Candidate s t1 t) (sym c.opposite.ensures) (start_made (sheet_in c.args.pass.now) c.args.self.now.at c.requires.fits c.args.place c.requires.place).1.1.1.0;
     })
 
 pub returns : goal.returns
@@ -68,7 +68,7 @@ returns c =
     let s = sheet_in p in
     let e = entry s c.args.place in
     let t1 = c.args.self.now.at in
-    let t4 = c.saturating_sub-opposite.result in
+    let t4 = c.opposite.result in
     let v1 = c.visit.new.self in
     let v2 = c.visit_other.new.self in
     let v3 = c.visit-2.new.self in
@@ -90,7 +90,7 @@ returns c =
           kept p v2 v4 on2 on24 t1 (e.release + e.duration) second,
           (
             kept p v3 v4 on3 on34 t1 (e.deadline - e.duration) third,
-            (subst (λ (t : ℕ). Accounted s v4.found t1 t) c.saturating_sub-opposite.ensures fourth, tt),
+            (subst (λ (t : ℕ). Accounted s v4.found t1 t) c.opposite.ensures fourth, tt),
           ),
         ),
       );
