@@ -18,6 +18,7 @@ fn window(duration: u32, release: u32, deadline: u32) -> Result<Window, Refusal>
     ensures { MatchResult result (λ w. (¬ Misfit duration release deadline) × (w ≡ record { release = release; deadline = deadline })) (λ r. Misfit duration release deadline × (r ≡ Refusal.Window)) }
 {
     if deadline <= u32::from(SLOTS) && duration <= deadline && release <= deadline - duration {
+        // both are at most 4,032 here, so the casts lose nothing, and try_from would add a branch that is never taken
         Ok(Window {
             release: release as u16,
             deadline: deadline as u16,

@@ -24,6 +24,7 @@ pub(crate) fn judged(sheet: Listed<'_>) -> Result<[u16; ROWS_MAX], Interval>
         },
     };
     let found = queue.whole_pass();
+    // kept: what is found is the error here, and map_or_else with a closure for each case would be no plainer
     match found.first {
         Some(first) => Err(first),
         None => Ok(order.starts(&found.ends)),

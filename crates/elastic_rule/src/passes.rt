@@ -40,6 +40,7 @@ impl<'a> Queue<'a> {
             first: None,
             ends: self.soonest_ends(),
         };
+        // by place, which is what a step is given
         for j in 0..self.sheet.entries.len() {
             self.add_deadline(j, &mut found);
         }

@@ -68,7 +68,7 @@ fn run_lines(rt: &HostRuntime, board: &mut Board) -> anyhow::Result<()> {
 
 // Runs every front of the sample.
 fn run_fronts(rt: &HostRuntime, board: &mut Board) -> anyhow::Result<()> {
-    for n in 0..SAMPLE.len() + 1 {
+    for n in 0..=SAMPLE.len() {
         let name = format!(in rt.alloc(); "the first {n} bytes of the sample")?;
         show(rt, board, name.as_str(), &SAMPLE[0..n])?;
     }

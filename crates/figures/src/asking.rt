@@ -39,7 +39,7 @@ fn show_found<T: Display + Drop>(rt: &HostRuntime, found: Option<T>) -> io::Resu
 // Prints the capacity, the count and the entries, and what is answered for the place after the last.
 fn show_sheet<S: Sheet>(rt: &HostRuntime, sheet: &S) -> io::Result<()> {
     print!(rt; "C {} N {}", sheet.capacity(), sheet.count())?;
-    for place in 0..sheet.count().wrapping_add(1) {
+    for place in 0..=sheet.count() {
         show_found(rt, sheet.entry(place).map(Shown))?;
     }
     Ok(())
@@ -60,7 +60,7 @@ fn show_evidence<V: Tells + Drop>(rt: &HostRuntime, evidence: Option<V>) -> io::
 fn show_rule<R: Rule, S: Sheet>(rt: &HostRuntime, rule: &R, sheet: &S) -> io::Result<()> {
     print!(rt; "; {}", rule.mark())?;
     show_evidence(rt, rule.evidence(sheet))?;
-    for place in 0..sheet.count().wrapping_add(1) {
+    for place in 0..=sheet.count() {
         show_found(rt, rule.earliest(sheet, place))?;
     }
     Ok(())

@@ -15,6 +15,7 @@ use shift_rule::shifts::Shift;
 use sweep::applying::apply;
 use time_table_rule::rule::TimeTable;
 
+// kept: the effect is generic over its evidence, and no From can go from each kind of it to one of another.
 // An effect with its evidence told as an interval.
 fn told<V: Tells + Drop>(effect: Effect<V>) -> Effect<Interval>
     ensures { result ≡ told_as V.Tells.told effect }
@@ -27,6 +28,7 @@ fn told<V: Tells + Drop>(effect: Effect<V>) -> Effect<Interval>
     }
 }
 
+// kept: a char against three literals is the form that is asked for.
 // Applies the rule that a letter names; any other letter is refused, and the board stays.
 pub fn apply_by_letter(board: &mut Board, letter: char) -> Result<Effect<Interval>, Refusal>
     ensures { (chain : List Application) × AppliesByLetter letter (bookings board.old) chain result (bookings board.new) }

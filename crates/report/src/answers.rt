@@ -23,6 +23,7 @@ impl Reply {
     }
 
     // To the application of the rule of a letter.
+    // kept: the letter goes into two of the five replies, so that no From can make them of the answer alone.
     pub fn applied(letter: char, answer: Result<Effect<Interval>, Refusal>) -> Reply
         ensures { result ≡ applied letter answer }
     {

@@ -24,6 +24,7 @@ pub(crate) trait Lines {
 }
 
 // A number in base ten, and the character after it.
+// kept: a char in place of the text of one byte may take four bytes, so that less would be known of the length.
 pub(crate) fn figure<I: Integer>(text: &mut Text, n: I, after: &str)
     requires one { length after.now ≡ 1 }
     requires room { array_string_len text.old + (I.MAX_STR_LEN + 1) ≤ REPORT_MAX }

@@ -48,10 +48,12 @@ pub trait Rule {
         ensures { result ≡ (means self.now).earliest (S.Sheet.meaning sheet.now) place };
 
     // The earliest starts of all entries at once, at their places.
+    // kept: an array, since no length stands beside it: the sheet says how many entries it has, and a start is looked up by its place.
     fn earliest_all<S: Sheet>(&self, sheet: &S) -> [u16; ROWS_MAX]
         ensures { (k : ℕ) → k < count (S.Sheet.meaning sheet.now) → (means self.now).earliest (S.Sheet.meaning sheet.now) k ≡ Some (slice_index result k) }
     {
         let mut starts = [0; ROWS_MAX];
+        // by place, since a sheet is asked by place and lends no list
         for i in 0..sheet.count() {
             starts[i] = self.earliest(sheet, i).unwrap_or(0);
         }
@@ -64,6 +66,7 @@ pub trait Rule {
         ensures told { MatchResult result (λ _. (means self.now).evidence (S.Sheet.meaning sheet.now) ≡ None) (λ v. (means self.now).evidence (S.Sheet.meaning sheet.now) ≡ Some (Self.Evidence.Tells.told v)) }
         ensures starts { IfOk result (λ starts. (k : ℕ) → k < count (S.Sheet.meaning sheet.now) → (means self.now).earliest (S.Sheet.meaning sheet.now) k ≡ Some (slice_index starts k)) }
     {
+        // kept: evidence is the error here, and map_or_else with a closure for each case would be no plainer
         match self.evidence(sheet) {
             Some(evidence) => Err(evidence),
             None => Ok(self.earliest_all(sheet)),

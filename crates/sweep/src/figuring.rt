@@ -36,6 +36,7 @@ pub(crate) fn all_figures<R: Rule, S: Sheet>(
     let mirror = Mirror::of(sheet);
     let mirrored_starts = rule.earliest_all(&mirror);
     let mut windows = [Window::default(); ROWS_MAX];
+    // by place, since a sheet is asked by place and lends no list
     for place in 0..sheet.count() {
         if let Some(e) = sheet.entry(place) {
             windows[place] = between(e, starts[place], mirrored_starts[place]);

@@ -14,6 +14,7 @@ use rules::slots::Slot;
 use sheet::lists::Listed;
 
 // The first slot whose usage is above the capacity.
+// kept: `judged(sheet).err()` would work out all starts where there is none.
 pub(crate) fn crowded_slot(sheet: Listed<'_>) -> Option<Slot>
     ensures { Named (Crowded (meant sheet.entry)) (option_map told result) }
 {
@@ -35,6 +36,7 @@ pub(crate) fn judged(sheet: Listed<'_>) -> Result<[u16; ROWS_MAX], Slot>
 {
     let line = usage_line(sheet);
     let usage = Usage::of(sheet, &line);
+    // kept: the slot is the error here, and map_or_else with a closure for each case would be no plainer
     match usage.first_crowded() {
         Some(slot) => Err(slot),
         None => Ok(usage.starts()),

@@ -65,6 +65,7 @@ impl<'a> Usage<'a> {
         ensures { (k : ℕ) → k < count (meant self.now.sheet) → meaning_T.earliest (meant self.now.sheet) k ≡ Found (slice_index result k) }
     {
         let mut starts = [0; ROWS_MAX];
+        // by place, which is what a start is asked by
         for place in 0..self.sheet.entries.len() {
             starts[place] = self.start(place);
         }

@@ -42,6 +42,7 @@ fn raise(line: &mut [u32], from: usize, to: usize, by: u32)
 }
 
 // The usage of every slot by the fixed parts of the entries.
+// kept: an array of 4,032 slots inside one function, all zero at first, is the form that is asked for.
 pub(crate) fn usage_line(sheet: Listed<'_>) -> [u32; 4032]
     ensures { UsageLine (meant sheet.entry) result }
 {
