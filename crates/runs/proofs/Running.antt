@@ -19,7 +19,8 @@ use Rattle.runs.proofs.Boards.{widen}
 use Rattle.runs.proofs.Applied.{Kept, kept_same, applied_keeps, applied_honest, applied_exact_E, applied_exact_S, quiet_tight}
 use Rattle.runs.proofs.Rounds.{Calm}
 use Rattle.runs.proofs.Swept.{sweep_keeps, sweep_each, sweep_honest, settled_calm}
-use Rattle.runs.proofs.Stepping.{Placed, built_sound, built_placed, building, entering, withdrawing, rebooking, building_placed, entering_placed, withdrawing_placed, rebooking_placed}
+use Rattle.board.proofs.Sound.{entered_sound, withdrawn_sound, rebooked_sound}
+use Rattle.runs.proofs.Stepping.{Placed, built_sound, built_placed, building, building_placed, entering_placed, withdrawing_placed, rebooking_placed}
 use Rattle.runs.proofs.Letters.{named_lawful}
 
 pub lawful_three : (r1 r2 r3 : Rule) → AllByRecursion Lawful (three r1 r2 r3)
@@ -34,9 +35,9 @@ by_letter_keeps letter b sound (unnamed none) = kept_same b sound
 
 pub step_sound : {b c : Bookings} {call : Call} {chain : List Application} {reply : Reply} → SoundBookings b → Step b call chain reply c → SoundBookings c
 step_sound {b} sound (builds h) = building b sound h
-step_sound {b} sound (enters h) = entering b sound h
-step_sound {b} sound (withdraws h) = withdrawing b sound h
-step_sound {b} sound (rebooks h) = rebooking b sound h
+step_sound {b} sound (enters h) = entered_sound b sound h
+step_sound {b} sound (withdraws h) = withdrawn_sound b sound h
+step_sound {b} sound (rebooks h) = rebooked_sound b sound h
 step_sound {b} sound (applies {rule} h) = (applied_keeps rule.means rule.lawful b sound h).sound
 step_sound {b} sound (applies_by_letter {letter} h) = (by_letter_keeps letter b sound h).sound
 step_sound {b} sound (sweeps {r1} {r2} {r3} h) = (sweep_keeps (three r1 r2 r3) (lawful_three r1 r2 r3) sound h).sound

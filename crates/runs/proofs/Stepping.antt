@@ -1,13 +1,10 @@
 -- What build, enter, withdraw and rebook keep.
-use Rattle.std.proofs.Common.{◌≡◌, ℕ, suc, ◌<◌, ◌≤◌, List, [], ◌∷◌, ◌++◌, map, length, set, sym, refl, ap, ◌∙◌, inl, inr, arith, length-set}
+use Rattle.std.proofs.Common.{◌≡◌, ℕ, suc, ◌<◌, ◌≤◌, List, [], ◌∷◌, ◌++◌, map, length, set, sym, refl, ap, ◌∙◌, inl, inr, arith}
 use Rattle.std.specs.List.{remove}
-use Rattle.std.proofs.lemmas.List.Edits.{length-remove}
-use Rattle.std.proofs.lemmas.List.{length-map}
 use Rattle.std.proofs.lemmas.Bool.{cases_lt}
 use Rattle.model.specs.declared.entries.Entry.{Entry}
 use Rattle.model.specs.declared.rows.Pair.{Pair}
 use Rattle.model.specs.declared.rows.Row.{Row}
-use Rattle.model.specs.declared.windows.Window.{Window}
 use Rattle.model.specs.Changes.{reset, rebooked}
 use Rattle.model.specs.Limits.{row_at}
 use Rattle.model.specs.Sheets.{Placement, count, entry, demand_at}
@@ -17,7 +14,7 @@ use Rattle.model.proofs.Sums.{total_ext}
 use Rattle.board.specs.declared.bookings.Test.{Test}
 use Rattle.board.specs.Calls.{Bookings, SoundBookings, Answer, Nothing, Wrong, row_of, anew, built, Builds, makes, too_small, too_large, Enters, adds, refuses, Withdraws, removes, Rebooks, moves, unfit}
 use Rattle.board.specs.Calls as calls
-use Rattle.board.proofs.Kept.{added_before, added_last, added_length, fine_test, sound_added, sound_withdrawn, sound_rebooked}
+use Rattle.board.proofs.Kept.{added_before, added_last, added_length}
 use Rattle.runs.specs.Applying.{in_window, as_entered, at_present, entered_entries, present_entries}
 use Rattle.runs.proofs.Boards.{entered_count, entered_at, present_count, present_at, tasks_present}
 
@@ -53,16 +50,6 @@ module _ (b : Bookings) (t : Test) where
 
   more_length : length more.rows ≡ suc (length b.rows)
   more_length = omega (arith, added_length b.rows (row_of t))
-
-  more_sound : SoundBookings b → Nothing (Wrong b t) → SoundBookings more
-  more_sound sound none =
-      let fine = fine_test b t none in
-      record {
-        some_capacity = sound.some_capacity;
-        small_capacity = sound.small_capacity;
-        few = omega (arith, more_length, fine.room);
-        sound = sound_added b t more.rows refl sound.sound fine;
-      }
 
   more_new : (k : ℕ) → k ≡ length b.rows → row_at more.rows k ≡ row_of t
   more_new k e = ap (row_at more.rows) e ∙ added_last b.rows (row_of t)
@@ -138,34 +125,6 @@ module _ (b : Bookings) (sound : SoundBookings b) where
   building {capacity} (makes low high) = built_sound capacity low high
   building (too_small h) = sound
   building (too_large h) = sound
-
-  pub entering : {t : Test} {a : Answer} {c : Bookings} → Enters b t a c → SoundBookings c
-  entering {t} (adds none) = more_sound b t sound none
-  entering (refuses w first) = sound
-
-  pub withdrawing : {pair : Pair} {a : Answer} {c : Bookings} → Withdraws b pair a c → SoundBookings c
-  withdrawing (removes k at) =
-      let left = remove b.rows k in
-      record {
-        some_capacity = sound.some_capacity;
-        small_capacity = sound.small_capacity;
-        few = omega (arith, length-map left reset, length-remove b.rows k at.inside, sound.few);
-        sound = sound_withdrawn b.capacity k b.rows (map reset left) at.inside refl sound.sound;
-      }
-  withdrawing (calls.Withdraws.unknown free) = sound
-
-  pub rebooking : {pair : Pair} {release deadline : ℕ} {a : Answer} {c : Bookings} → Rebooks b pair release deadline a c → SoundBookings c
-  rebooking {release = release} {deadline = deadline} (moves k at fit) =
-      let w : Window = record { release = release; deadline = deadline } in
-      let rows = set b.rows k (rebooked w (row_at b.rows k)) in
-      record {
-        some_capacity = sound.some_capacity;
-        small_capacity = sound.small_capacity;
-        few = omega (arith, length-map rows reset, length-set b.rows k (rebooked w (row_at b.rows k)), sound.few);
-        sound = sound_rebooked b.capacity k w b.rows (map reset rows) at.inside fit refl sound.sound;
-      }
-  rebooking (calls.Rebooks.unknown free) = sound
-  rebooking (unfit k at misfit) = sound
 
 module _ (b : Bookings) (placed : Placed b) where
   pub building_placed : {capacity : ℕ} {a : Answer} {c : Bookings} → Builds b capacity a c → Placed c
