@@ -51,7 +51,7 @@ returns c =
     let s = sheet_in p in
     let e = entry s c.args.place in
     let t1 = c.args.self.now.at in
-    let t4 = c.opposite.result in
+    let t4 = c.opposite-last.result in
     let v1 = c.visit.new.self in
     let v2 = c.visit_other.new.self in
     let v3 = c.visit-2.new.self in
@@ -73,7 +73,7 @@ returns c =
           kept p v2 v4 on2 on24 t1 (e.release + e.duration) second,
           (
             kept p v3 v4 on3 on34 t1 (e.deadline - e.duration) third,
-            (subst (λ (t : ℕ). Accounted s v4.found t1 t) c.opposite.ensures fourth, tt),
+            (subst (λ (t : ℕ). Accounted s v4.found t1 t) c.opposite-last.ensures fourth, tt),
           ),
         ),
       );
