@@ -1,10 +1,10 @@
 -- The energies on ramps are those of the entries.
-use Rattle.std.proofs.Common.{◌≡◌, ℕ, zero, suc, ◌+◌, ◌-◌, ◌*◌, ◌<◌, ◌≤◌, min, ◌≢◌, length, get_or, set, sym, refl, ap, ◌∙◌, inl, inr, mul-le-mul, mul-le-mul_left, arith, length-set}
+use Rattle.std.proofs.Common.{◌≡◌, ℕ, zero, suc, ◌+◌, ◌-◌, ◌*◌, ◌<◌, ◌≤◌, min, ◌≢◌, length, get_or, set, sym, refl, ap, ◌∙◌, inl, inr, mul-le-mul_left, arith, length-set}
 use Rattle.std.proofs.lemmas.List.{get_or-set_same, get_or-set_other}
 use Rattle.std.proofs.lemmas.Bool.{cases_lt}
 use Rattle.model.specs.declared.entries.Entry.{Entry}
 use Rattle.model.specs.Total.{total}
-use Rattle.model.specs.Sheets.{Sheet, Sound, count, entry, capacity_max, horizon, rows_max}
+use Rattle.model.specs.Sheets.{Sheet, entry, rows_max}
 use Rattle.model.specs.Energy.{left_part, right_part, held, energy_of}
 use Rattle.model.proofs.Sums.{total_ext, total_none, total_more}
 use Rattle.shift.proofs.Energies.{energy_is}
@@ -27,14 +27,6 @@ rise_from e t1 t2 room l = ap (λ (n : ℕ). e.demand * n) (held_from e t1 t2 ro
 pub rise_to : (e : Entry) (t1 t2 : ℕ) → e.release + e.duration ≤ e.deadline → t1 < t2 →
     e.demand * min ((t2 - t1) - (t2 - (e.release + e.duration))) (right_part e t2) ≡ energy_of e t1 t2
 rise_to e t1 t2 room l = ap (λ (n : ℕ). e.demand * n) (held_to e t1 t2 room l) ∙ sym (energy_is e t1 t2)
-
--- no ramp climbs higher than the whole work of an entry
-pub small_climb : (s : Sheet) → Sound s → (k : ℕ) → k < count s → (long : ℕ) → long ≤ (entry s k).duration → (entry s k).demand * long ≤ 16511040
-small_climb s sound k l long less =
-    let g = sound.each k l in
-    let c : (entry s k).demand ≤ capacity_max = omega (arith, sound.small_capacity) in
-    let h : long ≤ horizon = omega arith in
-    omega (arith, mul-le-mul c h)
 
 -- ---- sums of ramps
 pub climbed_none : (r : Slopes) → r.count ≡ 0 → (far : ℕ) → climbed r far ≡ 0

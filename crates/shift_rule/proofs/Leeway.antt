@@ -56,9 +56,3 @@ module _ (e : Entry) (room : e.release + e.duration ≤ e.deadline) where
   late_leeway t2 late =
       let none : (e.duration - right_part e t2) - ((e.release + e.duration) - t2) ≡ 0 = omega arith in
       omega (arith, ap (λ (n : ℕ). e.demand * n) none)
-
-  -- and none has more than in the slots to spare, or in all that it runs
-  pub widest_leeway : (t2 spare : ℕ) → spare ≡ min e.duration (e.deadline - (e.release + e.duration)) → leeway e t2 ≤ e.demand * spare
-  widest_leeway t2 spare is =
-      let less : (e.duration - right_part e t2) - ((e.release + e.duration) - t2) ≤ spare = omega arith in
-      mul-le-mul_left e.demand less

@@ -10,7 +10,7 @@ use Rattle.model.specs.Energy.{Candidate, NegativeSlack, ForcedEnd, energy, lack
 use Rattle.model.specs.Shift.{NegativeCandidate}
 use Rattle.shift.specs.Meaning.{from_to, no_later?, sooner}
 use Rattle.shift.proofs.Energies.{lack_by_energy}
-use Rattle.shift.proofs.Listed.{no_later_true, no_later_false, no_later_itself, no_later_on}
+use Rattle.shift.proofs.Listed.{no_later_true, no_later_on}
 use Rattle.shift_rule.specs.declared.pass.Survey.{Survey}
 use Rattle.shift_rule.specs.Forced.{lack_beside, start_after}
 use Rattle.shift_rule.specs.Leeways.{leeway, Enough}
@@ -18,11 +18,6 @@ use Rattle.shift_rule.specs.Found.{start_in, Reached, Right, LedBy, Accounted, G
 use Rattle.shift_rule.proofs.Leeway.{stays_released}
 
 -- ---- the first interval
-
-led_here : (i : Interval) (o : Option Interval) → LedBy (sooner i o) i.t1 i.t2
-led_here i None = no_later_itself i
-led_here i (Some j) =
-    cond_both (no_later? i j) i j (λ v. LedBy (Some v) i.t1 i.t2) (λ e. no_later_itself i) (λ e. no_later_false i j e)
 
 led_on : (i : Interval) (o : Option Interval) (t1 t2 : ℕ) → LedBy o t1 t2 → LedBy (sooner i o) t1 t2
 led_on i None t1 t2 h = absurd h
@@ -64,13 +59,6 @@ module _ (s : Sheet) (v : Survey) (t1 t2 : ℕ) (c : Candidate s t1 t2) where
         record {
           first = λ u1 u2 h. rw is-sooner (led_on (from_to t1 t2) v.first u1 u2 h);
           starts = λ k l. omega arith;
-        }
-
-    pub sooner_accounted : Accounted s led t1 t2
-    sooner_accounted =
-        record {
-          negative = λ _ _. rw is-sooner (led_here (from_to t1 t2) v.first);
-          forced = λ _ under. absurd (under over);
         }
 
   -- ---- slack that is not negative

@@ -3,7 +3,7 @@ use Rattle.std.specs.Prelude.{◌≡◌, ℕ, ◌+◌, ◌-◌, ◌<◌, ◌≤�
 use Rattle.std.specs.List.{AllByRecursion}
 use Rattle.model.specs.declared.intervals.Interval.{Interval}
 use Rattle.model.specs.Sheets.{Sheet, count, entry, rows_max}
-use Rattle.model.specs.Energy.{IsInterval, Candidate, EndPoint, NegativeSlack, ForcedEnd, lack, ceiling}
+use Rattle.model.specs.Energy.{IsInterval, EndPoint, NegativeSlack, ForcedEnd, lack, ceiling}
 use Rattle.model.specs.Rules.{NoLater}
 use Rattle.model.specs.Shift.{NegativeCandidate}
 use Rattle.shift.specs.Meaning.{from_start, to_end, made_by}
@@ -40,10 +40,6 @@ pub record Accounted (s : Sheet) (v : Survey) (t1 t2 : ℕ) : Type 0 where
 pub record Grows (n : ℕ) (v w : Survey) : Type 0 where
   pub first : (t1 t2 : ℕ) → LedBy v.first t1 t2 → LedBy w.first t1 t2
   pub starts : (k : ℕ) → k < n → start_in v k ≤ start_in w k
-
--- Of a list, what is an interval is a candidate.
-abbrev pub AllCandidates : Sheet → List Interval → Type 0
-AllCandidates s = AllByRecursion (λ i. IsInterval i.t1 i.t2 → Candidate s i.t1 i.t2)
 
 -- All of a list are accounted for.
 abbrev pub AllAccounted : Sheet → Survey → List Interval → Type 0

@@ -58,7 +58,7 @@ pub(crate) fn forced_start(e: Entry, t1: u16, t2: u16, slack: u32) -> u16
     if lack == 0 {
         return 0;
     }
-    // the end lies within the deadline, so that it fits
+    // The end lies within the deadline, so that it fits; `try_from` would add a branch that is never taken.
     let end = u32::from(t2) + rounded_up(lack, u32::from(e.demand));
     (end as u16).saturating_sub(e.duration)
 }

@@ -55,8 +55,8 @@ impl<'a> Movers<'a> {
         ensures { Enough (meant self.now.sheet) t2 result }
     {
         let mut most = 0;
-        for place in self.places.as_slice() {
-            most = leeway(self.sheet.entries[*place], t2).max(most);
+        for &place in self.places.as_slice() {
+            most = leeway(self.sheet.entries[place], t2).max(most);
         }
         most
     }

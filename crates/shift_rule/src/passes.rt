@@ -28,6 +28,7 @@ impl<'s, 'a> Pass<'s, 'a> {
     }
 
     // Accounts for the candidates of the first two kinds that begin at a start point, unless it has been gone through.
+    // kept: one function for this and `close` would have to be told of the side, its set and what it accounts for, which is no plainer.
     fn begin(&mut self, t1: u16)
         requires { StartPoint (sheet_in self.old) t1 }
         ensures onward { Onward self.old self.new }

@@ -37,6 +37,7 @@ impl Rule for Shift {
     }
 
     fn earliest<S: Sheet>(&self, sheet: &S, place: usize) -> Option<u16> {
+        // kept: tried as `then`, and the proof did not close, since nothing is known of what the closure's call returns.
         if place < sheet.count() {
             Some(self.earliest_all(sheet)[place])
         } else {

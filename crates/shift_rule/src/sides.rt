@@ -84,10 +84,11 @@ impl Side for Start {
         let reach = subject.reaches[place];
         let early_end = e.release + e.duration;
         let late_start = e.deadline - e.duration;
+        let last = opposite(t1, e);
         pass.visit(ramps, reach.deadline, t1, e.deadline);
         pass.visit_other(ramps, reach.early_end, t1, early_end, e.deadline);
         pass.visit(ramps, reach.late_start, t1, late_start);
-        pass.visit(ramps, subject.most, t1, opposite(t1, e));
+        pass.visit(ramps, subject.most, t1, last);
     }
 }
 

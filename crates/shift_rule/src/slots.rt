@@ -4,7 +4,7 @@ ghost use Rattle.model.specs.Sheets.{horizon};
 
 use model::limits::SLOTS;
 
-// The slots, and the end of the last one.
+// The slots, and the end of the last one. (A constant cannot call `usize::from`.)
 pub const MARKS: usize = SLOTS as usize + 1;
 
 // A set of slots, the end of the last one among them: a mark stands at each that is in it.

@@ -20,22 +20,18 @@ pub struct Subject<'a> {
 
 // The leeway of an entry is nowhere greater than its demand in the slots that it has to spare, or in all that it runs.
 fn widest(e: Entry) -> u32
-    requires { e.release + e.duration ≤ e.deadline }
     ensures { (t2 : ℕ) → leeway_of e t2 ≤ result }
 {
-    let spare = e.deadline - (e.release + e.duration);
-    u32::from(e.demand) * u32::from(e.duration.min(spare))
+    let early_end = u32::from(e.release) + u32::from(e.duration);
+    let spare = u32::from(e.deadline).saturating_sub(early_end);
+    u32::from(e.demand) * u32::from(e.duration).min(spare)
 }
 
 // As great a leeway as any entry has anywhere.
 fn reach_anywhere(sheet: Listed<'_>) -> u32
     ensures { (t2 : ℕ) → Enough (meant sheet.entry) t2 result }
 {
-    let mut most = 0;
-    for e in sheet.entries {
-        most = widest(*e).max(most);
-    }
-    most
+    sheet.entries.iter().map(|e| widest(*e)).max().unwrap_or(0)
 }
 
 impl<'a> Subject<'a> {

@@ -30,10 +30,10 @@ fn raise(movers: &Movers, t1: u16, t2: u16, slack: u32, starts: &mut [u16])
     ensures { (k : ℕ) → k < count (meant movers.now.sheet) → slice_index starts.new k ≡ max (slice_index starts.old k) (start_after (entry (meant movers.now.sheet) k) t1 t2 slack) }
 {
     let entries = movers.sheet.entries;
-    for place in movers.places.as_slice() {
-        let e = entries[*place];
+    for &place in movers.places.as_slice() {
+        let e = entries[place];
         if e.release < t2 {
-            starts[*place] = starts[*place].max(forced_start(e, t1, t2, slack));
+            starts[place] = starts[place].max(forced_start(e, t1, t2, slack));
         }
     }
 }

@@ -1,26 +1,10 @@
 -- One entry more.
-use Rattle.std.proofs.Common.{◌<◌, arith, below_more}
-use Rattle.model.specs.Sheets.{count, entry}
+use Rattle.std.proofs.Common.{below_more}
+use Rattle.model.specs.Sheets.{entry}
 use Rattle.shift_rule.specs.Found.{AllAccounted}
 use Rattle.shift_rule.specs.Passes.{sheet_in}
-use Rattle.shift_rule.specs.Ramps.{Energies}
-use Rattle.shift_rule.proofs.Onward.{still, then, onto, back, grown, all_still}
+use Rattle.shift_rule.proofs.Onward.{then, back, grown, all_still}
 use Rattle.shift_rule.proofs.pass.Pass.along.Goals as goal
-
-pub loop-place-init : goal.loop-place-init
-loop-place-init g c = (still c.args.self.now, λ j l. absurd (omega arith))
-
-pub account-requires : goal.account-requires
-account-requires g c =
-    let p = c.args.self.now in
-    let q = c.loop-place.self in
-    let side = c.args.side.now in
-    let on = c.loop-place.invariant.0 in
-    record {
-      fits = onto p q (λ s. g.S.Side.fits side s) on c.requires;
-      energies = onto p q (λ s. Energies (g.S.Side.has side) s c.of-ramps.result.slopes) on c.of-ramps.ensures;
-      place = onto p q (λ s. c.loop-place.place < count s) on c.loop-place-test.true;
-    }
 
 pub loop-place-preserved : goal.loop-place-preserved
 loop-place-preserved g c =
@@ -37,6 +21,3 @@ loop-place-preserved g c =
           (λ j l. all_still s q.found w.found (grown p q w on more) (made (entry s j)) (done j l))
           (back p q (λ z. AllAccounted z w.found (made (entry z i))) on c.account.ensures.accounted),
     )
-
-pub returns : goal.returns
-returns g c = record { onward = c.loop-place.invariant.0; accounted = λ j l. c.loop-place.invariant.1 j (omega arith) }

@@ -19,15 +19,6 @@ climb_most r top low far k =
 pub loop-k-init : goal.loop-k-init
 loop-k-init c = (sym (total_none (climb c.args.self.now.slopes c.args.far)), omega arith)
 
-pub overflow_add-sum : goal.overflow_add-sum
-overflow_add-sum c =
-    let r = c.args.self.now.slopes in
-    let k = c.loop-k.k in
-    let here : c.from.result * c.from-in-loop-k.result ≡ climb r c.args.far k =
-    rw (c.from.ensures, c.from-in-loop-k.ensures) (ap (λ (n : ℕ). get_or r.demands k 0 * n) (omega arith)) in
-    let most = climb_most r _ c.args.self.now.low c.args.far k in
-    omega (arith, c.args.self.now.low.few)
-
 pub loop-k-preserved : goal.loop-k-preserved
 loop-k-preserved c =
     let r = c.args.self.now.slopes in

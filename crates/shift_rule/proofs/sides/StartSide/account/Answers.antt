@@ -1,7 +1,6 @@
 -- Four intervals, one after the other.
-use Rattle.std.proofs.Common.{ℕ, ◌+◌, ◌-◌, get_or, refl, sym, subst}
+use Rattle.std.proofs.Common.{ℕ, ◌+◌, ◌-◌, get_or, refl, subst}
 use Rattle.model.specs.Sheets.{entry}
-use Rattle.model.specs.Energy.{IsInterval, Candidate}
 use Rattle.shift.proofs.Listed.{start_made}
 use Rattle.shift_rule.specs.Leeways.{no_reach}
 use Rattle.shift_rule.specs.Found.{Accounted}
@@ -46,29 +45,13 @@ visit-requires-2 c =
       candidate = (start_made (sheet_in c.args.pass.now) c.args.self.now.at c.requires.fits c.args.place c.requires.place).1.1.0;
     })
 
-pub visit-requires-3 : goal.visit-requires-3
-visit-requires-3 c =
-    let p = c.args.pass.now in
-    let s = sheet_in p in
-    let t1 = c.args.self.now.at in
-    let v1 = c.visit.new.self in
-    let v2 = c.visit_other.new.self in
-    let v3 = c.visit-2.new.self in
-    let on2 = then p v1 v2 c.visit.ensures.onward c.visit_other.ensures.onward in
-    let on3 = then p v2 v3 on2 c.visit-2.ensures.onward in
-    onto p v3 (λ z. Told z c.args.ramps.now.slopes p.subject.now.most t1 c.opposite.result) on3 (record {
-      enough = p.subject.now.known.anywhere _;
-      energies = λ l. c.requires.energies _ _ refl l;
-      candidate = subst (λ (t : ℕ). IsInterval t1 t → Candidate s t1 t) (sym c.opposite.ensures) (start_made (sheet_in c.args.pass.now) c.args.self.now.at c.requires.fits c.args.place c.requires.place).1.1.1.0;
-    })
-
 pub returns : goal.returns
 returns c =
     let p = c.args.pass.now in
     let s = sheet_in p in
     let e = entry s c.args.place in
     let t1 = c.args.self.now.at in
-    let t4 = c.opposite.result in
+    let t4 = c.opposite-last.result in
     let v1 = c.visit.new.self in
     let v2 = c.visit_other.new.self in
     let v3 = c.visit-2.new.self in
@@ -90,7 +73,7 @@ returns c =
           kept p v2 v4 on2 on24 t1 (e.release + e.duration) second,
           (
             kept p v3 v4 on3 on34 t1 (e.deadline - e.duration) third,
-            (subst (λ (t : ℕ). Accounted s v4.found t1 t) c.opposite.ensures fourth, tt),
+            (subst (λ (t : ℕ). Accounted s v4.found t1 t) c.opposite-last.ensures fourth, tt),
           ),
         ),
       );
