@@ -43,7 +43,7 @@ fn rounded_up(x: u32, c: u32) -> u32
     requires { (1 ≤ c) × (x + c ≤ 4294967295) }
     ensures { result ≡ ceiling x c }
 {
-    (x + (c - 1)) / c
+    x.div_ceil(c)
 }
 
 // The start that an interval with this slack forces on an entry, and 0 where it forces none.

@@ -22,6 +22,7 @@ impl<'s, 'a> Pass<'s, 'a> {
     {
         let sheet = self.subject.movers.sheet;
         let ramps = Ramps::of(sheet, side);
+        // by place, which is what a side is given
         for place in 0..sheet.entries.len() {
             side.account(self, &ramps, place);
         }
@@ -87,6 +88,7 @@ fn go_through(subject: &Subject) -> Survey
         begun: Slots::none(),
         closed: Slots::none(),
     };
+    // by place, which is what a step of the pass is given
     for place in 0..sheet.entries.len() {
         pass.around(place);
     }

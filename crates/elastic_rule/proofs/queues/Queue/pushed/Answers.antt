@@ -1,12 +1,9 @@
 -- What is filled and the work of one entry fit, and each way out is a step of the pushes.
-use Rattle.std.proofs.Common.{◌≡◌, ℕ, ◌+◌, ◌*◌, ◌<◌, ◌≤◌, max, sym, ap, ◌∙◌, subst, inl, inr, mul-le-mul, mul-le-mul_left, arith}
-use Rattle.std.specs.Int.{div_ceil}
-use Rattle.std.proofs.lemmas.Grind.{div_ceil_times}
-use Rattle.std.proofs.lemmas.Bool.{cases_lt}
+use Rattle.std.proofs.Common.{◌≡◌, ℕ, ◌+◌, ◌*◌, ◌<◌, ◌≤◌, max, sym, ap, ◌∙◌, subst, mul-le-mul, arith}
 use Rattle.model.specs.Sheets.{Sheet, Sound, count, entry, work, horizon, capacity_max}
 use Rattle.model.proofs.Bounds.{work_small, work_in_small}
 use Rattle.model.specs.Energy.{ceiling}
-use Rattle.model.proofs.Ceilings.{ceiling_up, ceiling_least}
+use Rattle.model.proofs.Ceilings.{rounded_up}
 use Rattle.elastic.specs.Pushes.{Fullest, PushedBy}
 use Rattle.elastic.proofs.Pushed.{pushed_past}
 use Rattle.sheet.specs.Listed.{meant}
@@ -20,19 +17,6 @@ level_small s sound r t2 n b full =
     let early : (entry s i).release ≤ horizon = omega arith in
     let room : s.capacity * (entry s i).release ≤ capacity_max * horizon = mul-le-mul sound.small_capacity early in
     omega (arith, work_in_small s sound (entry s i).release t2)
-
--- the library's quotient rounded up is ours
-same_ceiling : (x c d e : ℕ) → d * c < x + c → x ≤ c * e → e ≤ d → d ≡ e
-same_ceiling x c d e low up least =
-    elim (cases_lt e d) [
-      | inl l ↦ let more : c * (e + 1) ≤ c * d = mul-le-mul_left c (omega arith) in absurd (omega arith)
-      | inr le ↦ omega arith
-    ]
-
-rounded_up : (x c : ℕ) → 1 ≤ c → div_ceil x c ≡ ceiling x c
-rounded_up x c some =
-    let (high, low) = div_ceil_times x c some in
-    same_ceiling x c (div_ceil x c) (ceiling x c) low (ceiling_up x c some) (ceiling_least x c (div_ceil x c) some (omega (arith, high)))
 
 -- the level and the work of the entry
 small : (s : Sheet) → Sound s → (k r t2 n b : ℕ) → k < count s → Fullest s r t2 n b → b + work (entry s k) ≤ 1089728640
