@@ -27,6 +27,7 @@ fn run(rt: &HostRuntime) -> anyhow::Result<()> {
             println!(rt; "{line}")?;
         } else {
             // The words of the line are bytes in hexadecimal.
+            // kept: the program of the faults has the same three lines, and a crate for both would be longer.
             let file: Vec<u8> = line
                 .as_str()
                 .split_whitespace()

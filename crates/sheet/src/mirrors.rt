@@ -32,6 +32,7 @@ impl<'a, S: Sheet> Mirror<'a, S> {
     }
 }
 
+// kept: capacity and count are handed on here and by a cut; a trait for what lies below a sheet would be longer than the four lines.
 impl<'a, S: Sheet> Sheet for Mirror<'a, S> {
     ghost meaning = { λ m. mirror (S.Sheet.meaning m.below.now) };
 

@@ -19,6 +19,7 @@ pub fn apply<R: Rule>(board: &mut Board, rule: &R) -> Effect<R::Evidence>
     ensures evidence { ShowsEvidence (R.Rule.shows rule.now (at_present (bookings board.old))) result }
 {
     let sheet = present(board);
+    // kept: the answer is no Result, so that ? has nothing to answer with
     let starts = match rule.judge(&sheet) {
         Ok(starts) => starts,
         Err(evidence) => return Effect::Overfull(evidence),
