@@ -47,6 +47,7 @@ impl Board {
             return Err(Refusal::Capacity);
         }
         self.table.clear();
+        // below 4,096 here, so that the cast loses nothing
         self.capacity = capacity as u16;
         Ok(())
     }
@@ -76,6 +77,7 @@ impl Board {
         if self.rows().len() >= ROWS_MAX {
             return Err(Refusal::Full);
         }
+        // both were judged, so that the casts lose nothing
         Ok(Row {
             pair: test.pair,
             duration: test.duration as u16,

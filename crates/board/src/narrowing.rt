@@ -19,6 +19,7 @@ fn holds(row: &Row, window: Window) -> bool
 impl Board {
     // Gives the row at a place a new present window, which changes nothing else on the board, and answers true;
     // where there is no such row, or the window does not fit it, nothing changes and the answer is false.
+    // kept: a Result without a reason in it would be no plainer.
     pub fn narrow(&mut self, place: usize, window: Window) -> bool
         ensures answer { MatchBool result (FitsAt (bookings self.old) place window) (¬ FitsAt (bookings self.old) place window) }
         ensures board { MatchBool result (bookings self.new ≡ narrowed_at (bookings self.old) place window) (bookings self.new ≡ bookings self.old) }

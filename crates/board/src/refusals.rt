@@ -22,14 +22,6 @@ impl Refusal {
     pub fn number(self) -> u8
         ensures { result ≡ number_of self }
     {
-        u8::from(self)
-    }
-}
-
-impl From<Refusal> for u8 {
-    ghost from_gives = { λ refusal n. n ≡ number_of refusal };
-
-    fn from(refusal: Refusal) -> u8 {
-        refusal as u8
+        self as u8
     }
 }

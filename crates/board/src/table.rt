@@ -26,6 +26,7 @@ impl Model for Table {
     ghost invariant = { λ t. rows_max ≤ vec_capacity t.rows };
 }
 
+// kept: three calls ask that the row is there, which is of the place and not of the table.
 impl Table {
     // A table without rows. No other call on a table asks for memory.
     pub(crate) fn new(heap: Global) -> Result<Table, AllocError>
@@ -98,6 +99,7 @@ impl Table {
         ensures { self.new ≡ rows.now }
     {
         self.rows.clear();
+        // kept: the library's extension of a vector may ask for memory, and these pushes may not
         for row in rows {
             self.rows.push_reserved(*row);
         }

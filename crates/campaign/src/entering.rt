@@ -30,7 +30,8 @@ fn asked(fields: Fields) -> Test
 }
 
 // Reads the record that comes next, which has the given number, and enters it if it is a test.
-// kept: one struct for board and reader was tried, and the proof did not close: no rule yet covers a struct that holds a &mut Board where the header is read.
+// kept: tried with one struct for board and reader, and the check has no rule yet for a struct that holds a &mut Board, so that no proof
+// was found for the two functions that read the header and the whole file.
 fn enter_record(board: &mut Board, reader: &mut Reader, number: u32) -> Result<(), Fault>
     ensures { MatchResult result (λ _. Booked (spot reader.old) (bookings board.old) (spot reader.new) (bookings board.new)) (λ f. BadRecord number (spot reader.old) (bookings board.old) f) }
 {

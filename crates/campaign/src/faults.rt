@@ -37,6 +37,7 @@ pub enum Cause {
 }
 
 // A cause, the record that it was met in, counted from 1 with 0 for the header, and the byte, counted from 0.
+// kept: an Option for the record would be no plainer, since the 0 is printed as it is.
 #[derive(Clone, Copy, PartialEq, Eq)]
 pub struct Fault {
     pub cause: Cause,

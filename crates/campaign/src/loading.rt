@@ -51,6 +51,7 @@ fn fill(board: &mut Board, input: &[u8]) -> Result<(), Fault>
 pub fn load(board: &mut Board, input: &[u8]) -> Result<(), Fault>
     ensures { Loads input.now (bookings board.old) result (bookings board.new) }
 {
+    // kept: planning does the same round other steps; one function over a closure that changes the board would be no plainer than four lines
     let saved = board.save();
     let loaded = fill(board, input);
     if loaded.is_err() {

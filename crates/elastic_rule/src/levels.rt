@@ -34,6 +34,7 @@ impl<'a> Queue<'a> {
         ensures { Levels (meant self.now.sheet) t2 (count (meant self.now.sheet)) result }
     {
         let capacity = u32::from(self.sheet.capacity);
+        // kept: an array by place, as the earliest starts of every rule are
         let mut levels = [0; ROWS_MAX];
         let mut rest = self.all_work_by(t2);
         let mut release = 0;

@@ -10,6 +10,7 @@ use crate::queues::Queue;
 use model::intervals::Interval;
 
 // The first, by start and then by end, of an interval and of what was found before.
+// kept: S has the like, over an answer of its own; one function for both lines would be no plainer.
 fn first(found: Option<Interval>, interval: Interval) -> Interval
     ensures { result ≡ sooner found interval }
 {

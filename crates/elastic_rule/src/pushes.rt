@@ -31,6 +31,7 @@ impl<'a> Queue<'a> {
     pub(crate) fn soonest_ends(&self) -> [u32; ROWS_MAX]
         ensures { (k : ℕ) → k < count (meant self.now.sheet) → slice_index result k ≡ (entry (meant self.now.sheet) k).release + (entry (meant self.now.sheet) k).duration }
     {
+        // kept: an array by place, as the earliest starts of every rule are
         let mut ends = [0; ROWS_MAX];
         for (place, e) in self.sheet.entries.iter().enumerate() {
             ends[place] = u32::from(e.release) + u32::from(e.duration);

@@ -86,6 +86,7 @@ pub(crate) fn ask(rt: &HostRuntime, board: &Board, word: &str, given: &[u32]) ->
     let shown = match (word, given) {
         ("sheet", []) => show(rt, &sheet),
         ("mirror", []) => show(rt, &Mirror::of(&sheet)),
+        // a usize has 64 bits, but From does not know it
         ("cut", &[place, number]) => show(rt, &Cut::of(&sheet, place as usize, deadline(number))),
         ("cut of mirror", &[place, number]) => show(
             rt,

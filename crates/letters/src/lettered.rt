@@ -15,8 +15,8 @@ use shift_rule::shifts::Shift;
 use sweep::applying::apply;
 use time_table_rule::rule::TimeTable;
 
-// kept: the effect is generic over its evidence, and no From can go from each kind of it to one of another.
 // An effect with its evidence told as an interval.
+// kept: a map over the effect that takes a closure would be as long, and is wanted here alone, so that it is no plainer.
 fn told<V: Tells + Drop>(effect: Effect<V>) -> Effect<Interval>
     ensures { result ≡ told_as V.Tells.told effect }
 {
@@ -28,8 +28,8 @@ fn told<V: Tells + Drop>(effect: Effect<V>) -> Effect<Interval>
     }
 }
 
-// kept: a char against three literals is the form that is asked for.
 // Applies the rule that a letter names; any other letter is refused, and the board stays.
+// kept: a rule of the project asks for a char against three literals; each arm has a rule of another type, so that no table holds them.
 pub fn apply_by_letter(board: &mut Board, letter: char) -> Result<Effect<Interval>, Refusal>
     ensures { (chain : List Application) × AppliesByLetter letter (bookings board.old) chain result (bookings board.new) }
 {

@@ -38,6 +38,7 @@ pub fn plan(board: &mut Board, input: &[u8], out: &mut [u8]) -> Result<usize, Re
     ensures text { (text : List ℕ) × (after : Bookings) × Plans input.now (bookings board.old) text after × Writes text out.old result out.new × (bookings board.new ≡ held_after result (bookings board.old) after) }
     ensures promise { (EveryLoadEntersTheTestsOfItsFile) × ((EveryPlanKeepsItsPromise) × (EveryFileHasOnePlan)) }
 {
+    // kept: load does the same round other steps; one function over a closure that changes the board would be no plainer than four lines
     let saved = board.save();
     let written = plan_and_tell(board, input, out);
     if written.is_err() {

@@ -49,6 +49,7 @@ impl<'a> Reader<'a> {
         if count > TEXT_MAX {
             return Err(RecordFault::LongText.at(byte));
         }
+        // a usize has 64 bits, but From does not know it
         let count = count as usize;
         if count > self.rest.len() {
             return Err(RecordFault::TextPastEnd.at(byte));

@@ -36,20 +36,20 @@ row_lines (row ∷ rows) = row_line row ++ row_lines rows
 abbrev pub board_lines : Bookings → List ℕ
 board_lines b = head_line b ++ row_lines b.rows
 
--- The interval whose demand is too great, or the row whose window is too short, with the letter of the rule and the bytes after it.
+-- The interval that a rule, told by its letter, has evidence against, and the bytes after it.
 abbrev pub overfull_words : ℕ → Interval → List ℕ → List ℕ
 overfull_words letter interval after =
     codes "OVERFULL " ++ (encode letter ++ (codes " " ++ (before_space interval.t1 ++ (decimal interval.t2 ++ after))))
 
+-- The row that a rule, told by its letter, leaves too short, and the bytes after it.
 abbrev pub squeezed_words : ℕ → ℕ → List ℕ → List ℕ
 squeezed_words letter row after = codes "SQUEEZED " ++ (encode letter ++ (codes " " ++ (decimal row ++ after)))
 
 -- How a sweep ended.
 abbrev pub verdict_words : Verdict → List ℕ
 verdict_words Settled = codes "SETTLED "
-verdict_words (Overfull letter interval) =
-    codes "OVERFULL " ++ (encode letter ++ (codes " " ++ (before_space interval.t1 ++ before_space interval.t2)))
-verdict_words (Squeezed letter row) = codes "SQUEEZED " ++ (encode letter ++ (codes " " ++ before_space row))
+verdict_words (Overfull letter interval) = overfull_words letter interval (codes " ")
+verdict_words (Squeezed letter row) = squeezed_words letter row (codes " ")
 
 -- The line of a sweep's answer: how it ended, and its rounds.
 abbrev pub verdict_line : Swept → List ℕ

@@ -1,6 +1,5 @@
 -- The answers to commands, and their lines as bytes.
 use Rattle.std.specs.Prelude.{ℕ, List, ◌++◌, Ok, Err, codes, Result}
-use Rattle.std.proofs.Math.Utf8.{encode}
 use Rattle.model.specs.declared.intervals.Interval.{Interval}
 use Rattle.board.specs.declared.answers.Effect.{Effect}
 use Rattle.board.specs.declared.answers.Effect.TheVariants as effect
@@ -9,7 +8,7 @@ use Rattle.board.specs.Calls.{Answer}
 use Rattle.board.specs.Refusals.{number_of}
 use Rattle.report.specs.declared.replies.Reply.{Reply}
 use Rattle.report.specs.declared.replies.Reply.TheVariants.{Done, Refused, Place, Overfull, Squeezed, Narrowed, Quiet, Unknown}
-use Rattle.report.specs.Lines.{before_space, before_end}
+use Rattle.report.specs.Lines.{before_end, overfull_words, squeezed_words}
 
 -- The reply to a call that is obeyed or refused.
 abbrev pub called : Answer → Reply
@@ -34,9 +33,8 @@ abbrev pub reply_line : Reply → List ℕ
 reply_line Done = codes "OK\n"
 reply_line (Refused why) = codes "REFUSED " ++ before_end (number_of why)
 reply_line (Place place) = codes "PLACE " ++ before_end place
-reply_line (Overfull letter interval) =
-    codes "OVERFULL " ++ (encode letter ++ (codes " " ++ (before_space interval.t1 ++ before_end interval.t2)))
-reply_line (Squeezed letter row) = codes "SQUEEZED " ++ (encode letter ++ (codes " " ++ before_end row))
+reply_line (Overfull letter interval) = overfull_words letter interval (codes "\n")
+reply_line (Squeezed letter row) = squeezed_words letter row (codes "\n")
 reply_line Narrowed = codes "NARROWED\n"
 reply_line Quiet = codes "QUIET\n"
 reply_line Unknown = codes "UNKNOWN\n"

@@ -30,6 +30,8 @@ fn put<T: Lines>(value: &T, out: &mut [u8]) -> Result<usize, Refusal>
     Ok(n)
 }
 
+// kept: the five calls below are public by their names, and each writes another thing, so that one generic call would be no plainer.
+
 // The capacity, and the rows with their present windows.
 pub fn listing(board: &Board, out: &mut [u8]) -> Result<usize, Refusal>
     ensures { Writes (board_lines (bookings board.now)) out.old result out.new }

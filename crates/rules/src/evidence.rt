@@ -5,7 +5,8 @@ ghost use Rattle.model.specs.declared.intervals.Interval.{Interval as Told};
 use crate::slots::Slot;
 use model::intervals::Interval;
 
-// kept: From says of its answer only what holds of it, and the contract of a rule needs the interval as a function of the evidence.
+// kept: a From would be no plainer, since it says of its answer only what holds of it, and the contract of a rule needs the interval
+// as a function of the evidence.
 pub trait Tells {
     ghost told: { Self → Told };
 

@@ -15,15 +15,11 @@ pub trait Rule {
 
     const LETTER: char;
 
-    ghost LETTER: { ℕ };
-
     // the letter, the interval that the evidence tells, and the earliest starts
     ghost means: { Self → Meaning };
 
     // the evidence itself
     ghost shows: { Self → Meant → Maybe Self.Evidence };
-
-    ghost lettered: { (r : Self) → (means r).letter ≡ LETTER };
 
     ghost proper: { (r : Self) → Proper (means r) };
 
@@ -33,11 +29,9 @@ pub trait Rule {
     // the second half: where there is no evidence, no placement starts an entry before its earliest start
     ghost bounds: { (r : Self) → NeverBefore (means r) };
 
+    // kept: a body here would have to know that the letter of every rule is its constant, which is asked of none.
     fn mark(&self) -> char
-        ensures { result ≡ (means self.now).letter }
-    {
-        Self::LETTER
-    }
+        ensures { result ≡ (means self.now).letter };
 
     fn evidence<S: Sheet>(&self, sheet: &S) -> Option<Self::Evidence>
         ensures value { result ≡ shows self.now (S.Sheet.meaning sheet.now) }
@@ -48,7 +42,7 @@ pub trait Rule {
         ensures { result ≡ (means self.now).earliest (S.Sheet.meaning sheet.now) place };
 
     // The earliest starts of all entries at once, at their places.
-    // kept: an array, since no length stands beside it: the sheet says how many entries it has, and a start is looked up by its place.
+    // kept: an array by place, since E finds its starts out of order, so that a vector would first be filled with zeros and be no plainer.
     fn earliest_all<S: Sheet>(&self, sheet: &S) -> [u16; ROWS_MAX]
         ensures { (k : ℕ) → k < count (S.Sheet.meaning sheet.now) → (means self.now).earliest (S.Sheet.meaning sheet.now) k ≡ Some (slice_index result k) }
     {

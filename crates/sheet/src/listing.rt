@@ -47,6 +47,7 @@ impl<'a> Listed<'a> {
     pub fn releases(&self) -> [u16; ROWS_MAX]
         ensures { (k : ℕ) → k < count (meant self.now) → slice_index result k ≡ (entry (meant self.now) k).release }
     {
+        // kept: tried as a zip with iter_mut, and what the array holds at the end stayed unproved
         let mut releases = [0; ROWS_MAX];
         for (place, entry) in self.entries.iter().enumerate() {
             releases[place] = entry.release;

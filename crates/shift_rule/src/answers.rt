@@ -14,6 +14,7 @@ pub(crate) fn judged(sheet: Listed<'_>) -> Result<[u16; ROWS_MAX], Interval>
     ensures { MatchResult result (λ starts. (meaning_S.evidence (meant sheet.entry) ≡ None) × ((k : ℕ) → k < count (meant sheet.entry) → meaning_S.earliest (meant sheet.entry) k ≡ Some (slice_index starts k))) (λ i. meaning_S.evidence (meant sheet.entry) ≡ Some i) }
 {
     let found = survey(sheet);
+    // kept: what is found is the error here, and map_or_else with a closure for each case would be no plainer
     match found.first {
         Some(first) => Err(first),
         None => Ok(found.starts),
@@ -24,7 +25,7 @@ pub(crate) fn judged(sheet: Listed<'_>) -> Result<[u16; ROWS_MAX], Interval>
 pub(crate) fn earliest_starts(sheet: Listed<'_>) -> [u16; ROWS_MAX]
     ensures { (k : ℕ) → k < count (meant sheet.entry) → meaning_S.earliest (meant sheet.entry) k ≡ Some (slice_index result k) }
 {
-    // kept: tried as `unwrap_or_else`, whose closure needs a clause of its own, so that it is no plainer.
+    // kept: tried with unwrap_or_else, and the proof did not close: that the answer is the releases stayed open where there is evidence
     match judged(sheet) {
         Ok(starts) => starts,
         Err(_) => sheet.releases(),

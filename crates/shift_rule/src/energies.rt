@@ -47,6 +47,7 @@ fn rounded_up(x: u32, c: u32) -> u32
 }
 
 // The start that an interval with this slack forces on an entry, and 0 where it forces none.
+// kept: an Option would be no plainer, since the greatest is taken of all such starts, and 0 is the least of them.
 pub(crate) fn forced_start(e: Entry, t1: u16, t2: u16, slack: u32) -> u16
     requires { 1 ≤ e.demand }
     ensures { result ≡ start_after e t1 t2 slack }

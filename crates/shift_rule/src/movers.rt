@@ -41,6 +41,7 @@ impl<'a> Movers<'a> {
     pub(crate) fn of(sheet: Listed<'a>) -> Self
         ensures { result.sheet ≡ sheet.entry }
     {
+        // kept: collecting into a vector of a fixed capacity answers a Result, though there is room for all, so that it is no plainer
         let mut places = ArrayVec::new();
         for (place, e) in sheet.entries.iter().enumerate() {
             if e.release + e.duration < e.deadline {
@@ -54,9 +55,10 @@ impl<'a> Movers<'a> {
     fn reach_at(&self, t2: u16) -> u32
         ensures { Enough (meant self.now.sheet) t2 result }
     {
+        // kept: tried as a chain of map and max, and it stayed open that each place that the closure is given lies in the sheet
         let mut most = 0;
-        for &place in self.places.as_slice() {
-            most = leeway(self.sheet.entries[place], t2).max(most);
+        for place in self.places.as_slice() {
+            most = leeway(self.sheet.entries[*place], t2).max(most);
         }
         most
     }
@@ -78,6 +80,7 @@ impl<'a> Movers<'a> {
         ensures places { length result ≡ rows_max }
         ensures each { (k : ℕ) → k < count (meant self.now.sheet) → EnoughAround (meant self.now.sheet) (entry (meant self.now.sheet) k) (slice_index_or result k no_reach) }
     {
+        // kept: an array by place, as the earliest starts of every rule are
         let mut reaches = [Reach::default(); ROWS_MAX];
         for (place, e) in self.sheet.entries.iter().enumerate() {
             reaches[place] = self.reach_around(*e);

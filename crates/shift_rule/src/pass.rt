@@ -12,6 +12,7 @@ use model::limits::ROWS_MAX;
 #[derive(Drop)]
 pub struct Survey {
     pub(crate) first: Option<Interval>,
+    // kept: an array by place, as the earliest starts of every rule are
     pub(crate) starts: [u16; ROWS_MAX],
 }
 

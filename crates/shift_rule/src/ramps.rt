@@ -78,7 +78,7 @@ impl Ramps {
         // kept: a chain over three arrays side by side, that goes on in whole groups, is no plainer.
         let slopes = &self.slopes;
         let mut sum: u32 = 0;
-        for k in 0..(slopes.count + 7) / 8 * 8 {
+        for k in 0..slopes.count.next_multiple_of(8) {
             sum += u32::from(slopes.demands[k])
                 * u32::from(far.saturating_sub(slopes.offsets[k]).min(slopes.lengths[k]));
         }

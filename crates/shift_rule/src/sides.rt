@@ -14,6 +14,7 @@ use crate::pass::Pass;
 use crate::ramps::{Ramp, Ramps};
 use model::entries::Entry;
 
+// A side that intervals can have in common, with what it makes of each entry.
 pub(crate) trait Side {
     // whether t1 and t2 have the side
     ghost has: { Self → ℕ → ℕ → Type 0 };

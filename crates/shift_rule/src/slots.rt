@@ -10,6 +10,7 @@ pub const MARKS: usize = SLOTS as usize + 1;
 // A set of slots, the end of the last one among them: a mark stands at each that is in it.
 #[derive(Drop)]
 pub struct Slots {
+    // kept: fixed memory, since no call of a rule may ask for any
     pub(crate) marks: [bool; MARKS],
     ghost whole: { length marks ≡ horizon + 1 },
 }

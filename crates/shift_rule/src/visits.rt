@@ -38,7 +38,8 @@ fn raise(movers: &Movers, t1: u16, t2: u16, slack: u32, starts: &mut [u16])
     }
 }
 
-// kept: t2 and how much slack moves no entry there stay two parameters, since a type of both would hold a sheet too, and be asked that it is the pass's.
+// kept: t2 and how much slack moves no entry there stay two parameters, since a type of both would hold a sheet too, and be asked that it
+// is the pass's; the ends of an interval stay two, since `visit` is given ends that are none; and what the contracts share relates old and new.
 impl<'s, 'a> Pass<'s, 'a> {
     // Accounts for a candidate by ramps that have its energies; `reach` is as much slack as moves no entry. It is apart from `visit`, which
     // passes most intervals by and is short enough to stand where it is called.

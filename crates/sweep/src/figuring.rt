@@ -35,6 +35,7 @@ pub(crate) fn all_figures<R: Rule, S: Sheet>(
 {
     let mirror = Mirror::of(sheet);
     let mirrored_starts = rule.earliest_all(&mirror);
+    // kept: an array by place, as the earliest starts of every rule are
     let mut windows = [Window::default(); ROWS_MAX];
     // by place, since a sheet is asked by place and lends no list
     for place in 0..sheet.count() {

@@ -23,6 +23,7 @@ pub(crate) fn crowded_slot(sheet: Listed<'_>) -> Option<Slot>
 }
 
 // The earliest start of each entry, at its place.
+// kept: the line is made anew in each of the three answers; a closure over it would be no plainer than the two lines.
 pub(crate) fn earliest_starts(sheet: Listed<'_>) -> [u16; ROWS_MAX]
     ensures { (k : ℕ) → k < count (meant sheet.entry) → meaning_T.earliest (meant sheet.entry) k ≡ Found (slice_index result k) }
 {

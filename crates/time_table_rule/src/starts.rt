@@ -64,6 +64,7 @@ impl<'a> Usage<'a> {
     pub(crate) fn starts(&self) -> [u16; ROWS_MAX]
         ensures { (k : ℕ) → k < count (meant self.now.sheet) → meaning_T.earliest (meant self.now.sheet) k ≡ Found (slice_index result k) }
     {
+        // kept: an array by place, as the earliest starts of every rule are
         let mut starts = [0; ROWS_MAX];
         // by place, which is what a start is asked by
         for place in 0..self.sheet.entries.len() {

@@ -42,7 +42,7 @@ fn raise(line: &mut [u32], from: usize, to: usize, by: u32)
 }
 
 // The usage of every slot by the fixed parts of the entries.
-// kept: an array of 4,032 slots inside one function, all zero at first, is the form that is asked for.
+// kept: a rule of the project asks for an array of 4,032 slots, all zero at first, which one function makes and fills.
 pub(crate) fn usage_line(sheet: Listed<'_>) -> [u32; 4032]
     ensures { UsageLine (meant sheet.entry) result }
 {

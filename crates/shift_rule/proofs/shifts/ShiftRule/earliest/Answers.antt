@@ -1,7 +1,8 @@
--- A place that the sheet has not has no earliest start.
-use Rattle.std.proofs.Common.{sym, arith}
-use Rattle.shift.proofs.RuleS.{absent_S}
+-- The earliest start is the one at its place, and there is none from the count upward.
+use Rattle.std.proofs.Common.{rules}
+use Rattle.shift.specs.Meaning.{earliest_S}
 use Rattle.shift_rule.proofs.shifts.ShiftRule.earliest.Goals as goal
 
-pub returns-else-place-count : goal.returns-else-place-count
-returns-else-place-count g c = sym (absent_S (g.S.Sheet.meaning c.args.sheet.now) c.args.place (omega arith))
+pub returns : goal.returns
+unfolding earliest_S
+returns g c = search rules
