@@ -8,6 +8,7 @@ use report::texts::REPORT_MAX;
 use std::io::{BufRead, BufReader, Write};
 
 // Plans a file, and prints the report, or what is wrong with the file.
+// kept: `plan` has the same two steps, and a crate for both would be longer.
 fn show(rt: &HostRuntime, board: &mut Board, file: &[u8]) -> anyhow::Result<()> {
     let mut out = [0u8; REPORT_MAX];
     let length = plan(board, file, &mut out).map_err(|_| anyhow!(

@@ -56,6 +56,7 @@ pub(crate) fn write(
     let Some((length, file)) = given.split_first() else {
         return Ok(false)
     };
+    // a usize has 64 bits, but From does not know it
     let length = *length as usize;
     if length > BUFFER {
         return Ok(false);

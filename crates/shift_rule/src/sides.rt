@@ -42,6 +42,7 @@ pub(crate) trait Side {
 }
 
 // The partner of t1 in the window of an entry; slot 0 where it would lie before it.
+// kept: an Option would be no plainer, here and of a start, since what is answered in its place is the end of no interval, and is passed by.
 fn opposite(t1: u16, e: Entry) -> u16
     requires { (e.release ≤ horizon) × (e.deadline ≤ horizon) }
     ensures { result ≡ (e.release + e.deadline) - t1 }
