@@ -88,6 +88,7 @@ impl Cause {
 
 impl Fault {
     // A fault that was met in reading a record.
+    // kept: the number of the record is wanted too, so that no From can make it of the misread alone.
     pub(crate) fn unread(number: u32, misread: Misread) -> Fault
         ensures { result ≡ unread_in number misread }
     {

@@ -10,6 +10,7 @@ use std::io::{BufRead, BufReader, Write};
 // Plans a file, and prints the report, or what is wrong with the file.
 // kept: `plan` has the same two steps, and a crate for both would be longer.
 fn show(rt: &HostRuntime, board: &mut Board, file: &[u8]) -> anyhow::Result<()> {
+    // kept: fixed memory, as every report has
     let mut out = [0u8; REPORT_MAX];
     let length = plan(board, file, &mut out).map_err(|_| anyhow!(
         "the report is longer than its buffer"

@@ -69,6 +69,7 @@ fn main(rt: HostRuntime) -> anyhow::Result<()> {
         if input.read_until(b'\n', &mut line)? == 0 {
             break;
         }
+        // kept: fixed memory, as every report has
         let mut out = [0u8; REPORT_MAX];
         let length = answer(&mut board, without_end(&line), &mut out).map_err(|_| anyhow!(
             "an answer is longer than its buffer"

@@ -17,6 +17,7 @@ const SAMPLE: [u8; 39] = [
     b'h', b't', 1, 2, 5, 3, 10, 2, 2, 4, b'r', b'e', b's', b't',
 ];
 
+// kept: a bool is all that the callers ask, since the fault is printed here.
 // Loads the file that stands before every case, then the file; prints the answer with the size of the board, and says whether the file was loaded.
 fn show(rt: &HostRuntime, board: &mut Board, name: &str, file: &[u8]) -> anyhow::Result<bool> {
     let _ = load(board, &BEFORE);
@@ -36,6 +37,7 @@ fn show(rt: &HostRuntime, board: &mut Board, name: &str, file: &[u8]) -> anyhow:
 }
 
 // Prints the rows of a board.
+// kept: faults and rows are printed by this program alone, and a Display for each would be longer.
 fn show_rows(rt: &HostRuntime, board: &Board) -> anyhow::Result<()> {
     for row in board.rows() {
         print!(rt;
@@ -54,6 +56,7 @@ fn run_lines(rt: &HostRuntime, board: &mut Board) -> anyhow::Result<()> {
         let line = line?;
         if let Some((name, hex)) = line.as_str().split_once(':') {
             // The words after the colon are bytes in hexadecimal.
+            // kept: the program of the campaigns has the same three lines, and a crate for both would be longer.
             let file: Vec<u8> = hex
                 .split_whitespace()
                 .map(|word| -> anyhow::Result<u8> { Ok(u8::from_str_radix(word, 16)?) })

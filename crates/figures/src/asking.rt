@@ -46,6 +46,7 @@ fn show_sheet<S: Sheet>(rt: &HostRuntime, sheet: &S) -> io::Result<()> {
 }
 
 // Prints the interval that evidence tells, or that there is none.
+// kept: an interval stands in three lines of this program, each in words of its own, so that a Display of its two numbers would be no plainer.
 fn show_evidence<V: Tells + Drop>(rt: &HostRuntime, evidence: Option<V>) -> io::Result<()> {
     match evidence {
         Some(evidence) => {

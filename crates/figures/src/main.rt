@@ -27,7 +27,8 @@ fn numbers(heap: Global, words: &str) -> io::Result<Vec<u32>> {
 }
 
 // Runs one line, a word and numbers. The parts of the program know words of their own.
-// kept: each part says whether a word is its own; an enum of all that a line can ask would name each word twice, and be no plainer
+// kept: each part is given the word and the numbers, and says whether the word is its own; an enum of all that a line can ask would name
+// each word twice, and be no plainer
 fn run_line(rt: &HostRuntime, session: &mut Session, word: &str, given: &[u32]) -> io::Result<()> {
     let board = &mut session.board;
     if call(rt, board, word, given)? || narrow(rt, board, word)? || ask(rt, board, word, given)? {
@@ -47,6 +48,7 @@ fn run(rt: &HostRuntime) -> io::Result<()> {
     let mut session = Session {
         board,
         saved,
+        // kept: an Option would be no plainer, since no line asks for the answer of a sweep that was never made
         swept: Swept {
             verdict: Verdict::Settled,
             rounds: 0,

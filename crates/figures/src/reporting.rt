@@ -52,6 +52,7 @@ pub(crate) fn write(
     word: &str,
     given: &[u32],
 ) -> io::Result<bool> {
+    // kept: fixed memory, of which a line asks for a part
     let mut buffer = [b'.'; BUFFER];
     let Some((length, file)) = given.split_first() else {
         return Ok(false)

@@ -15,6 +15,7 @@ fn main(rt: HostRuntime) -> anyhow::Result<()> {
     let mut input = Vec::new(heap);
     rt.stdin().take(INPUT_MAX).read_to_end(&mut input)?;
     let mut board = Board::new(heap)?;
+    // kept: fixed memory, as every report has; `campaigns` has the same two steps, and a crate for both would be longer
     let mut out = [0u8; REPORT_MAX];
     let length = plan(&mut board, &input, &mut out).map_err(|_| anyhow!(
         "the report is longer than its buffer"

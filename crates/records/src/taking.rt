@@ -32,6 +32,7 @@ impl<'a> Reader<'a> {
         ensures exact { Takes itself number_here (spot self.old) result (spot self.new) }
         ensures small { IfOk result (λ v. v < 2 ^ 21) }
     {
+        // kept: a From would be made for this one place, and be no plainer
         let byte = self.place;
         let (value, count) = number(self.rest, GROUPS_MAX).map_err(|fault| RecordFault::Number(
             fault,

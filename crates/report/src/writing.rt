@@ -8,6 +8,7 @@ use itoa::{Buffer, Integer};
 use model::intervals::Interval;
 
 // What can be written at the end of a text.
+// kept: each contract asks for the room of its own text, which is another number each time.
 // kept: tried `impl Display` with `write!`, and the proof did not close: no clause says when a formatter fails, so after an `Err` of
 // `write!` it stays open that the buffer is shorter than the text
 pub(crate) trait Lines {

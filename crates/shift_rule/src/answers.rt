@@ -25,7 +25,8 @@ pub(crate) fn judged(sheet: Listed<'_>) -> Result<[u16; ROWS_MAX], Interval>
 pub(crate) fn earliest_starts(sheet: Listed<'_>) -> [u16; ROWS_MAX]
     ensures { (k : ℕ) → k < count (meant sheet.entry) → meaning_S.earliest (meant sheet.entry) k ≡ Some (slice_index result k) }
 {
-    // kept: tried with unwrap_or_else, and the proof did not close: that the answer is the releases stayed open where there is evidence
+    // kept: E has the same four lines over an answer of its own, and one generic function would be no plainer;
+    // tried with unwrap_or_else, and the proof did not close: that the answer is the releases stayed open where there is evidence
     match judged(sheet) {
         Ok(starts) => starts,
         Err(_) => sheet.releases(),

@@ -30,6 +30,8 @@ fn energy_of(e: Entry, t1: u16, t2: u16) -> u32
     u32::from(e.demand) * u32::from(held)
 }
 
+// kept: the ends of an interval and its slack stay numbers, as `visit` is given them, since a type for them here would be no plainer.
+
 // What an interval with this slack lacks where the entry starts as early as it can.
 fn lack_beside(e: Entry, t1: u16, t2: u16, slack: u32) -> u32
     ensures { result ≡ lack_beside e t1 t2 slack }

@@ -42,7 +42,7 @@ pub(crate) trait Side {
 }
 
 // The partner of t1 in the window of an entry; slot 0 where it would lie before it.
-// kept: an Option would be no plainer, here and of a start, since what is answered in its place is the end of no interval, and is passed by.
+// kept: an Option would be no plainer, since slot 0 is the end of no interval, and is passed by.
 fn opposite(t1: u16, e: Entry) -> u16
     requires { (e.release ≤ horizon) × (e.deadline ≤ horizon) }
     ensures { result ≡ (e.release + e.deadline) - t1 }
@@ -95,6 +95,7 @@ impl Side for Start {
 }
 
 // The slot whose partner in the window of an entry is t2; t2 itself where it would lie before slot 0.
+// kept: an Option would be no plainer, since no interval goes from t2 to itself, and it is passed by.
 fn partner(t2: u16, e: Entry) -> u16
     requires { (e.release ≤ horizon) × (e.deadline ≤ horizon) }
     ensures { result ≡ (to_end t2 e).t1 }

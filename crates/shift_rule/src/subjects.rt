@@ -13,6 +13,7 @@ use sheet::lists::Listed;
 #[derive(Drop)]
 pub struct Subject<'a> {
     pub(crate) movers: Movers<'a>,
+    // kept: an array by place, as the earliest starts of every rule are
     pub(crate) reaches: [Reach; ROWS_MAX],
     pub(crate) most: u32,
     ghost known: { Known (meant movers.sheet) reaches most },

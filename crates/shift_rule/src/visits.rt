@@ -16,6 +16,7 @@ use model::intervals::Interval;
 use model::limits::SLOTS;
 
 // The first, by start and then by end, of what was found and one interval more.
+// kept: E has the like, over an answer of its own; one function for both lines would be no plainer.
 fn sooner(found: Option<Interval>, here: Interval) -> Option<Interval>
     ensures { result ≡ sooner here found }
 {

@@ -33,6 +33,7 @@ impl<'a> Sheet for Present<'a> {
     }
 
     fn entry(&self, place: usize) -> Option<Entry> {
+        // kept: a row has two windows, so that a From would not say which of them the entry has
         let row = self.rows.get(place)?;
         Some(Entry {
             release: row.present.release,

@@ -14,6 +14,7 @@ use rules::rule::Rule;
 fn step<R: Rule>(board: &mut Board, rule: &R) -> Result<Change, Verdict>
     ensures { Steps (R.Rule.means rule.now) (bookings board.old) result (bookings board.new) }
 {
+    // kept: a verdict needs the letter of the rule, so that no From can make it of the effect alone
     match apply(board, rule) {
         Effect::Overfull(evidence) => Err(Verdict::Overfull {
             letter: rule.mark(),

@@ -25,6 +25,7 @@ fn beside(e: Entry, t: u16, usage: u32) -> u32
 impl<'a> Usage<'a> {
     // The smallest start with room for the entry at a place; where none has room, the one past its last start.
     // A slot without room moves the start past it, so that the window is gone through once.
+    // kept: an Option would be no plainer, since the start past the last one is what the rule answers where none has room.
     fn first_room(&self, place: usize) -> u16
         requires { place < count (meant self.now.sheet) }
         ensures { FirstRoom (meant self.now.sheet) place result ⊎ NoRoom (meant self.now.sheet) place result }
