@@ -18,8 +18,8 @@ pub struct Ramp {
 }
 
 // Ramps, of which the first `count` places have one.
-// kept: tried as one array of ramps, and it misses the bar of speed, since eight ramps at a time are added only from arrays side by
-// side: a sum over 60 ramps took 1.9 times as many instructions.
+// kept: tried as one array of ramps, in a plain program with the same sum, and not in `plan`: over 60 ramps it took 1.9 times as many
+// instructions, since eight ramps at a time are added only from arrays side by side, and S has no such room below the bar of speed.
 #[derive(Drop)]
 pub struct Slopes {
     pub(crate) count: usize,
