@@ -2,19 +2,19 @@
 ghost use Rattle.std.specs.Prelude.{◌≡◌};
 ghost use Rattle.board.specs.Refusals.{number_of};
 
-// One case for each reason, in the order in which a call judges them, with the number by which it is reported.
+// One case for each reason, in the order in which a call judges them; the first is reported as 1, and each other as one more.
 #[derive(Clone, Copy, PartialEq, Eq)]
 pub enum Refusal {
-    Capacity = 1,
-    Profile = 2,
-    Bearer = 3,
-    Duration = 4,
-    Demand = 5,
-    Window = 6,
-    Taken = 7,
-    Full = 8,
-    Unknown = 9,
-    Letter = 10,
+    Capacity,
+    Profile,
+    Bearer,
+    Duration,
+    Demand,
+    Window,
+    Taken,
+    Full,
+    Unknown,
+    Letter,
 }
 
 impl Refusal {
@@ -22,6 +22,6 @@ impl Refusal {
     pub fn number(self) -> u8
         ensures { result ≡ number_of self }
     {
-        self as u8
+        self as u8 + 1
     }
 }

@@ -11,12 +11,12 @@ impl Board {
     pub fn save(&self) -> Saved
         ensures { kept result ≡ bookings self.now }
     {
-        let mut rows = ArrayVec::new();
-        rows.try_extend_from_slice(self.rows()).unwrap();
-        Saved {
+        let mut saved = Saved {
             capacity: self.capacity,
-            rows,
-        }
+            rows: ArrayVec::new(),
+        };
+        saved.rows.try_extend_from_slice(self.rows()).unwrap();
+        saved
     }
 
     // Makes the board hold what was saved.

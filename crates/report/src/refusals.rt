@@ -5,7 +5,7 @@ ghost use Rattle.report.specs.Buffers.{number_of};
 #[derive(Clone, Copy, PartialEq, Eq)]
 pub enum Refusal {
     // the buffer is shorter than the text
-    Short = 18,
+    Short,
 }
 
 impl Refusal {
@@ -13,6 +13,6 @@ impl Refusal {
     pub fn number(self) -> u8
         ensures { result ≡ number_of self }
     {
-        self as u8
+        self as u8 + 18
     }
 }

@@ -40,13 +40,13 @@ module _ (s : Sheet) (v : Survey) (right : Right s v) (all : (i : ℕ) → i < c
       (on_pairs (λ t1 t2. IsInterval t1 t2 → NegativeSlack s t1 t2 → NoLater i t1 t2) (led (Some i) e))
   found_named None e = none_by_pairs s (on_pairs (λ t1 t2. IsInterval t1 t2 → ¬ NegativeSlack s t1 t2) (led None e))
 
-  found_is_S : meaning_S.evidence s ≡ v.first
+  pub found_is_S : meaning_S.evidence s ≡ v.first
   found_is_S = evidence_is_S s v.first (found_named v.first refl)
 
-  none_negative : v.first ≡ None → (t1 t2 : ℕ) → ¬ NegativeCandidate s t1 t2
+  pub none_negative : v.first ≡ None → (t1 t2 : ℕ) → ¬ NegativeCandidate s t1 t2
   none_negative e = found_named None e
 
-  starts_are_S : v.first ≡ None → (k : ℕ) → k < count s → meaning_S.earliest s k ≡ Some (start_in v k)
+  pub starts_are_S : v.first ≡ None → (k : ℕ) → k < count s → meaning_S.earliest s k ≡ Some (start_in v k)
   starts_are_S none k l =
       let clear = none_negative none in
       let old = right.starts k l in

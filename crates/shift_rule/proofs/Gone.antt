@@ -12,7 +12,7 @@ use Rattle.shift_rule.proofs.Onward.{from_still, to_still}
 use Rattle.shift_rule.proofs.Sure.{From-prop, To-prop}
 
 -- what holds of marks still holds where one is added
-marks_more : (P : ℕ → Type 0) (before after : Slots) (i : ℕ) → after.marks ≡ set before.marks i true → Marks P before → P i → Marks P after
+pub marks_more : (P : ℕ → Type 0) (before after : Slots) (i : ℕ) → after.marks ≡ set before.marks i true → Marks P before → P i → Marks P after
 marks_more P before after i same old here t m =
     let there : get_or (set before.marks i true) t false ≡ true = subst (λ ms. get_or ms t false ≡ true) same m in
     elim (cases_lt t i) [

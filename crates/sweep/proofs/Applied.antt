@@ -17,7 +17,7 @@ use Rattle.sweep.specs.Windows.{window_at, TooShort}
 -- The code asks the sheet of what it holds; that is what the board holds, and so are the rows.
 module _ (rule : Meaning) (b d : Bookings) (held : d ≡ b) (ws : List Window)
     (found : (k : ℕ) → k < count (at_present d) → window_at ws k ≡ figures rule (at_present d) k) where
-  figure_at : (k : ℕ) → k < length b.rows → window_at ws k ≡ figures rule (at_present b) k
+  pub figure_at : (k : ℕ) → k < length b.rows → window_at ws k ≡ figures rule (at_present b) k
   figure_at =
       subst (λ (x : Bookings). (k : ℕ) → k < length x.rows → window_at ws k ≡ figures rule (at_present x) k) held
       (λ k l. found k (omega (arith, present_count d)))
@@ -25,7 +25,7 @@ module _ (rule : Meaning) (b d : Bookings) (held : d ≡ b) (ws : List Window)
   none_on_board : rule.evidence (at_present d) ≡ None → rule.evidence (at_present b) ≡ None
   none_on_board = subst (λ (x : Bookings). rule.evidence (at_present x) ≡ None) held
 
-  short : (k : ℕ) → k < length b.rows → TooShort b.rows ws k → Short rule (at_present b) k
+  pub short : (k : ℕ) → k < length b.rows → TooShort b.rows ws k → Short rule (at_present b) k
   short k l h =
       let w = figure_at k l in
       let r = ap (λ (v : Window). v.release) w in
@@ -33,7 +33,7 @@ module _ (rule : Meaning) (b d : Bookings) (held : d ≡ b) (ws : List Window)
       let p = ap (λ (e : Entry). e.duration) (present_at b k l) in
       omega arith
 
-  too_short : (k : ℕ) → k < length b.rows → Short rule (at_present b) k → TooShort b.rows ws k
+  pub too_short : (k : ℕ) → k < length b.rows → Short rule (at_present b) k → TooShort b.rows ws k
   too_short k l h =
       let w = figure_at k l in
       let r = ap (λ (v : Window). v.release) w in
@@ -49,16 +49,10 @@ module _ (rule : Meaning) (b d : Bookings) (held : d ≡ b) (ws : List Window)
       squeezes (none_on_board none) k l (short k l h) (λ j i s. before j i (too_short j (omega arith) s))
 
   -- no row is too short
-  module _ (none : rule.evidence (at_present d) ≡ None) (rows : List Row) (same : rows ≡ b.rows)
-      (wide : (k : ℕ) → k < length rows → ¬ TooShort rows ws k) where
+  module _ (rows : List Row) (same : rows ≡ b.rows) (wide : (k : ℕ) → k < length rows → ¬ TooShort rows ws k) where
     wide_on_board : (k : ℕ) → k < length b.rows → ¬ Short rule (at_present b) k
     wide_on_board k l s =
         subst (λ (x : List Row). (k : ℕ) → k < length x → ¬ TooShort x ws k) same wide k l (too_short k l s)
-
-    pub rested : (still : List Row) → still ≡ b.rows → ((k : ℕ) → k < length still → window_at ws k ≡ (row_at still k).present) → Applies rule b Quiet b
-    rested still stays alike =
-        let alike_on_board = subst (λ (x : List Row). (k : ℕ) → k < length x → window_at ws k ≡ (row_at x k).present) stays alike in
-        rests (none_on_board none) wide_on_board (λ k l. sym (figure_at k l) ∙ alike_on_board k l)
 
     pub fits : SoundBookings b → (k : ℕ) → k < length b.rows → FitsIn (row_at b.rows k) (window_at ws k)
     fits sound k l =
@@ -69,14 +63,20 @@ module _ (rule : Meaning) (b d : Bookings) (held : d ≡ b) (ws : List Window)
         let was = sound.sound.windowed k l in
         record { later = omega arith; sooner = omega arith; room = omega arith }
 
-    pub narrowed_so : (still : List Row) → still ≡ b.rows → ((k : ℕ) × (k < length still) × (¬ (window_at ws k ≡ (row_at still k).present))) →
-        (after : Bookings) → Writes (window_at ws) b after → Applies rule b Narrowed after
-    narrowed_so still stays unlike after w =
-        let (k, l, other) =
-        subst (λ (x : List Row). (k : ℕ) × (k < length x) × (¬ (window_at ws k ≡ (row_at x k).present))) stays unlike in
-        narrows (none_on_board none) wide_on_board k l (λ same. other (figure_at k l ∙ same)) after
-        (record {
-          capacity = w.capacity;
-          places = w.places;
-          each = λ j m. w.each j m ∙ ap (λ (v : Window). narrowed v (row_at b.rows j)) (figure_at j m);
-        })
+    module _ (none : rule.evidence (at_present d) ≡ None) where
+      pub rested : (still : List Row) → still ≡ b.rows → ((k : ℕ) → k < length still → window_at ws k ≡ (row_at still k).present) → Applies rule b Quiet b
+      rested still stays alike =
+          let alike_on_board = subst (λ (x : List Row). (k : ℕ) → k < length x → window_at ws k ≡ (row_at x k).present) stays alike in
+          rests (none_on_board none) wide_on_board (λ k l. sym (figure_at k l) ∙ alike_on_board k l)
+
+      pub narrowed_so : (still : List Row) → still ≡ b.rows → ((k : ℕ) × (k < length still) × (¬ (window_at ws k ≡ (row_at still k).present))) →
+          (after : Bookings) → Writes (window_at ws) b after → Applies rule b Narrowed after
+      narrowed_so still stays unlike after w =
+          let (k, l, other) =
+          subst (λ (x : List Row). (k : ℕ) × (k < length x) × (¬ (window_at ws k ≡ (row_at x k).present))) stays unlike in
+          narrows (none_on_board none) wide_on_board k l (λ same. other (figure_at k l ∙ same)) after
+          (record {
+            capacity = w.capacity;
+            places = w.places;
+            each = λ j m. w.each j m ∙ ap (λ (v : Window). narrowed v (row_at b.rows j)) (figure_at j m);
+          })

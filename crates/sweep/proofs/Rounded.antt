@@ -44,10 +44,10 @@ abbrev joined : Change → Result Change Verdict → Result Change Verdict
 joined c (Err v) = Err v
 joined c (Ok d) = Ok (both c d)
 
-fails : (rule : Meaning) (rules : List Meaning) (b c : Bookings) (v : Verdict) → Steps rule b (Err v) c → Rounds (rule ∷ rules) b (Err v) c
+pub fails : (rule : Meaning) (rules : List Meaning) (b c : Bookings) (v : Verdict) → Steps rule b (Err v) c → Rounds (rule ∷ rules) b (Err v) c
 fails rule rules b c v (e, a, ends) = (application rule b e ∷ [], here a ends)
 
-goes_on : (rule : Meaning) (rules : List Meaning) (b c d : Bookings) (n : Change) (o : Result Change Verdict) → Steps rule b (Ok n) c →
+pub goes_on : (rule : Meaning) (rules : List Meaning) (b c d : Bookings) (n : Change) (o : Result Change Verdict) → Steps rule b (Ok n) c →
     Rounds rules c o d → Rounds (rule ∷ rules) b (joined n o) d
 goes_on rule rules b c d Narrowed (Err v) a (chain, breaks) = (application rule b effect.Narrowed ∷ chain, after a after_narrowed breaks)
 goes_on rule rules b c d Narrowed (Ok Narrowed) a (chain, passes, quiet) =
@@ -61,7 +61,7 @@ goes_on rule rules b c d Quiet (Ok Quiet) a (chain, passes, quiet) =
     (application rule b effect.Quiet ∷ chain, then a after_quiet passes, (refl, quiet))
 
 -- a round of no rules is quiet
-rests : (b : Bookings) → Rounds [] b (Ok Quiet) b
+pub rests : (b : Bookings) → Rounds [] b (Ok Quiet) b
 rests b = ([], done, tt)
 
 both_quiet : (n : Change) → both n Quiet ≡ n

@@ -36,7 +36,7 @@ returns-then-not-differ g c =
     let rule = c.args.rule.now in
     record {
       step = rested (g.R.Rule.means rule) (bookings c.args.board.now) _ c.present-sheet.ensures c.all_figures-windows.result c.all_figures-windows.ensures
-          c.in-Ok.ensures.told c.rows.result.now c.rows.ensures c.in_default.ensures c.rows-2.result.now c.rows-2.ensures c.if-not-differ.ensures;
+          c.rows.result.now c.rows.ensures c.in_default.ensures c.in-Ok.ensures.told c.rows-2.result.now c.rows-2.ensures c.if-not-differ.ensures;
       evidence = shown (λ x. g.R.Rule.shows rule (at_present x)) _ _ _ c.present-sheet.ensures c.in-Ok.ensures.value;
     }
 
@@ -44,7 +44,7 @@ pub write-requires : goal.write-requires
 write-requires g c = (
   search rules,
   fits (g.R.Rule.means c.args.rule.now) (bookings c.args.board.now) _ c.present-sheet.ensures c.all_figures-windows.result c.all_figures-windows.ensures
-      c.in-Ok.ensures.told c.rows.result.now c.rows.ensures c.in_default.ensures c.args.board.now.sound,
+      c.rows.result.now c.rows.ensures c.in_default.ensures c.args.board.now.sound,
 )
 
 pub returns : goal.returns
@@ -52,7 +52,7 @@ returns g c =
     let rule = c.args.rule.now in
     record {
       step = narrowed_so (g.R.Rule.means rule) (bookings c.args.board.now) _ c.present-sheet.ensures c.all_figures-windows.result c.all_figures-windows.ensures
-          c.in-Ok.ensures.told c.rows.result.now c.rows.ensures c.in_default.ensures c.rows-2.result.now c.rows-2.ensures c.if-not-differ.ensures
+          c.rows.result.now c.rows.ensures c.in_default.ensures c.in-Ok.ensures.told c.rows-2.result.now c.rows-2.ensures c.if-not-differ.ensures
           (bookings c.write.new.board) c.write.ensures;
       evidence = shown (λ x. g.R.Rule.shows rule (at_present x)) _ _ _ c.present-sheet.ensures c.in-Ok.ensures.value;
     }
