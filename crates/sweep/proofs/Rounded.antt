@@ -40,7 +40,7 @@ both Quiet d = d
 both Narrowed d = Narrowed
 
 -- The outcome of a round after one of its applications went through.
-abbrev joined : Change → Result Change Verdict → Result Change Verdict
+abbrev pub joined : Change → Result Change Verdict → Result Change Verdict
 joined c (Err v) = Err v
 joined c (Ok d) = Ok (both c d)
 

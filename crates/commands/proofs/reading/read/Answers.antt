@@ -1,5 +1,5 @@
 -- A line that is neither a note nor blank says what its words say.
-use Rattle.std.proofs.Common.{◌≡◌, ℕ, List, ◌∷◌, Some, None, IsUtf8, MatchOption, Option, sym, ap, ◌∙◌, inl, inr}
+use Rattle.std.proofs.Common.{◌≡◌, ℕ, List, ◌∷◌, Some, None, IsUtf8, MatchOption, Option, sym, ap, ◌∙◌, inl, inr, rules}
 use Rattle.commands.specs.declared.commands.Command.{Command}
 use Rattle.commands.specs.declared.commands.Line.{Line}
 use Rattle.commands.specs.declared.commands.Line.TheVariants.{Unknown, Says}
@@ -29,4 +29,4 @@ returns c =
     let said : words line ≡ c.in-Some.name.now ∷ left c.word.new.self = ap words (sym text.0) ∙ c.in-Some.ensures in
     let kept : ¬ PassedOver line = λ p. elim p [ inl note ↦ c.if-is_note.ensures note | inr blank ↦ worded _ _ _ said blank ] in
     let named : c.command.result ≡ command_of (words line) = c.command.ensures ∙ sym (ap command_of said) in
-    says line c.command.result c.map_or.result kept text.1 named c.map_or.ensures
+    says line c.command.result c.map_or.result kept text.1 named (search rules)
