@@ -19,15 +19,17 @@ pub fn sweep<X: Rule, Y: Rule, Z: Rule>(board: &mut Board, x: &X, y: &Y, z: &Z) 
     ensures promise { (EveryRunKeepsItsPromise) × (EveryListOfCallsHasOneRun) }
 {
     let mut passed = 0;
-    let verdict = loop {
+    loop {
         match round(board, x, y, z) {
             Ok(Change::Narrowed) => passed += 1,
-            Ok(Change::Quiet) => break Verdict::Settled,
-            Err(verdict) => break verdict,
+            Ok(Change::Quiet) => return Swept {
+                verdict: Verdict::Settled,
+                rounds: passed + 1,
+            },
+            Err(verdict) => return Swept {
+                verdict,
+                rounds: passed + 1,
+            },
         }
-    };
-    Swept {
-        verdict,
-        rounds: passed + 1,
     }
 }

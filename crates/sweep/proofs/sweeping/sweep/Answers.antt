@@ -1,18 +1,14 @@
 -- A round that narrows goes on from the board that it left; a round that breaks off, or in which all are quiet, is the last.
-use Rattle.std.proofs.Common.{◌≡◌, ℕ, ◌+◌, [], ◌∷◌, List, subst, arith}
+use Rattle.std.proofs.Common.{[], ◌∷◌, arith}
 use Rattle.std.specs.List.{AllByRecursion}
-use Rattle.model.specs.Rules.{Meaning, Lawful}
-use Rattle.board.specs.declared.answers.Verdict.{Verdict}
-use Rattle.board.specs.Calls.{Bookings}
+use Rattle.model.specs.Rules.{Lawful}
 use Rattle.board.specs.Held.{bookings}
-use Rattle.runs.specs.Sweeping.{SweepsTo}
 use Rattle.runs.proofs.OneRun.{every_list_of_calls_has_one_run}
-use Rattle.runs.proofs.Resumed.{after_rounds, resumes_here, resumes_again, resumes_settles, resumes_fails, rounds_small}
+use Rattle.runs.proofs.Resumed.{resumes_here, resumes_again, resumes_settles, resumes_fails, rounds_small}
 use Rattle.runs.proofs.Rounds.{passes_less}
 use Rattle.runs.proofs.Running.{every_run_keeps_its_promise}
 use Rattle.sweep.proofs.sweeping.sweep.Given.{Over}
 use Rattle.sweep.proofs.sweeping.sweep.Goals as goal
-use Rattle.sweep.proofs.sweeping.sweep.Goals.{in-Ok-Quiet, in-Err}
 
 pub loop-passed-init : goal.loop-passed-init
 loop-passed-init g c = resumes_here _ (bookings c.args.board.now) c.args.board.now.sound
@@ -22,6 +18,9 @@ overflow_add-passed g c = omega (arith, rounds_small _ _ _ _ c.args.board.now.so
 
 pub overflow_add-result : goal.overflow_add-result
 overflow_add-result g c = omega (arith, rounds_small _ _ _ _ c.args.board.now.sound c.loop-passed.invariant)
+
+pub overflow_add-result-in-Err : goal.overflow_add-result-in-Err
+overflow_add-result-in-Err g c = omega (arith, rounds_small _ _ _ _ c.args.board.now.sound c.loop-passed.invariant)
 
 -- the three rules keep the law
 laws : (g : Over) (c : goal.In-Ok-Narrowed g) →
@@ -48,28 +47,20 @@ loop-passed-smaller g c =
     let went = rw (c.in-Ok-Narrowed.is, c.in-Ok-Narrowed.field-0-is) at c.round.ensures in
     passes_less (laws g c) c.loop-passed.invariant.sound went.1 went.2
 
--- the rounds that are answered are those that were passed, and the last one
-counted : (rules : List Meaning) (b c : Bookings) (v : Verdict) (n m : ℕ) → n ≡ m → SweepsTo rules b (after_rounds v n) c →
-    SweepsTo rules b (after_rounds v m) c
-counted rules b c v n m e s = subst (λ (k : ℕ). SweepsTo rules b (after_rounds v k) c) e s
+pub returns-in-Ok-Quiet-clause-step : goal.returns-in-Ok-Quiet-clause-step
+returns-in-Ok-Quiet-clause-step g c =
+    let went = rw (c.in-Ok-Quiet.is, c.in-Ok-Quiet.field-0-is) at c.round.ensures in
+    resumes_settles _ (bookings c.args.board.now) c.loop-passed.passed (bookings c.loop-passed.board) (bookings c.round.new.board)
+    went.0 c.loop-passed.invariant went.1 went.2
 
-pub returns-clause-step : goal.returns-clause-step
-returns-clause-step g c =
-    let few = rounds_small _ _ _ _ c.args.board.now.sound c.loop-passed.invariant in
-    elim c.match-round.branch [
-      | in-Ok-Quiet w ↦
-          let went = rw (w.in-Ok-Quiet.is, w.in-Ok-Quiet.field-0-is) at c.round.ensures in
-          rw w.verdict-is
-          (counted _ _ _ _ (c.loop-passed.passed + 1) _ (omega (arith, few))
-          (resumes_settles _ (bookings c.args.board.now) c.loop-passed.passed (bookings c.loop-passed.board) (bookings c.round.new.board)
-          went.0 c.loop-passed.invariant went.1 went.2))
-      | in-Err w ↦
-          let went = rw w.in-Err.is at c.round.ensures in
-          rw w.verdict-is
-          (counted _ _ _ _ (c.loop-passed.passed + 1) _ (omega (arith, few))
-          (resumes_fails _ (bookings c.args.board.now) c.loop-passed.passed (bookings c.loop-passed.board) (bookings c.round.new.board)
-          went.0 w.in-Err.verdict c.loop-passed.invariant went.1))
-    ]
+pub returns-in-Ok-Quiet-clause-promise : goal.returns-in-Ok-Quiet-clause-promise
+returns-in-Ok-Quiet-clause-promise g c = (every_run_keeps_its_promise, every_list_of_calls_has_one_run)
 
-pub returns-clause-promise : goal.returns-clause-promise
-returns-clause-promise g c = (every_run_keeps_its_promise, every_list_of_calls_has_one_run)
+pub returns-in-Err-clause-step : goal.returns-in-Err-clause-step
+returns-in-Err-clause-step g c =
+    let went = rw c.in-Err.is at c.round.ensures in
+    resumes_fails _ (bookings c.args.board.now) c.loop-passed.passed (bookings c.loop-passed.board) (bookings c.round.new.board)
+    went.0 c.in-Err.verdict c.loop-passed.invariant went.1
+
+pub returns-in-Err-clause-promise : goal.returns-in-Err-clause-promise
+returns-in-Err-clause-promise g c = (every_run_keeps_its_promise, every_list_of_calls_has_one_run)

@@ -1,5 +1,6 @@
 -- What is filled and the work of one entry fit, and each way out is a step of the pushes.
-use Rattle.std.proofs.Common.{◌≡◌, ℕ, ◌+◌, ◌*◌, ◌<◌, ◌≤◌, max, sym, ap, ◌∙◌, subst, mul-le-mul, arith}
+use Rattle.std.proofs.Common.{◌≡◌, ℕ, ◌+◌, ◌*◌, ◌<◌, ◌≤◌, max, sym, subst, mul-le-mul, arith}
+use Rattle.std.specs.Int.{div_ceil}
 use Rattle.model.specs.Sheets.{Sheet, Sound, count, entry, work, horizon, capacity_max}
 use Rattle.model.proofs.Bounds.{work_small, work_in_small}
 use Rattle.model.specs.Energy.{ceiling}
@@ -40,8 +41,8 @@ returns c =
     let own : c.from.result * c.from-2.result ≡ work (entry s k) = cc in
     let room : c.from-capacity.result * c.from-3.result ≡ s.capacity * (entry s j).deadline = cc in
     let total : c.args.level + c.from.result * c.from-2.result ≡ c.args.level + work (entry s k) = omega arith in
-    let up : c.div_ceil.result ≡ ceiling (c.args.level + work (entry s k)) s.capacity =
-    c.div_ceil.ensures ∙ rw (total, c.from-capacity.ensures) (rounded_up (c.args.level + work (entry s k)) s.capacity some) in
+    let up : div_ceil (c.args.level + c.from.result * c.from-2.result) c.from-capacity.result ≡ ceiling (c.args.level + work (entry s k)) s.capacity =
+    rw (total, c.from-capacity.ensures) (rounded_up (c.args.level + work (entry s k)) s.capacity some) in
+    let end : c.max.result ≡ max c.args.end (ceiling (c.args.level + work (entry s k)) s.capacity) = omega (arith, up) in
     let next : ℕ → Type 0 = λ e. PushedBy s k (j + 1) e in
-    subst next (sym (c.max.ensures ∙ ap (λ (x : ℕ). max c.args.end x) up))
-    (pushed_past s k j c.args.end is c.args.level full some (omega (arith, c.if-deadline-e.false)) (omega arith))
+    subst next (sym end) (pushed_past s k j c.args.end is c.args.level full some (omega (arith, c.if-deadline-e.false)) (omega arith))
